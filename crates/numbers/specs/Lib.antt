@@ -1,0 +1,3 @@
+-- Numbers as document 01 reads them.
+pub mod Progress
+pub mod Fields

@@ -1,0 +1,121 @@
+// The ledger's types and their limits. Document 01's rules over them are the definitions of specs/; its demands are theorems of this crate.
+ghost use mathlib.Core.Path.{_≡_};
+ghost use Rattle.rules.specs.Limits.{opens};
+
+// The five numbers that an opening takes. `cap`, the largest step, belongs to the run; `nodes` is the table room.
+pub struct Opening {
+    pub start: i32,
+    pub until: i32,
+    pub teams: i32,
+    pub cap: i32,
+    pub nodes: i32,
+}
+
+// A node: its range start..until, its progress, its owner (0 is nobody) and its left child (0 is none).
+pub struct Node {
+    pub start: u32,
+    pub until: u32,
+    pub progress: i32,
+    pub owner: u32,
+    pub left: u32,
+}
+
+// Node n stands in slot n - 1 of the table.
+pub struct Ledger {
+    pub start: u32,
+    pub until: u32,
+    pub teams: u32,
+    pub room: u32,
+    pub used: u32,
+    pub nodes: [Node; Opening::NODES],
+}
+
+// An opened ledger, or the code of a refusal with a ledger that is all 0.
+pub struct Opened {
+    pub code: u32,
+    pub ledger: Ledger,
+}
+
+pub struct Request {
+    pub kind: i32,
+    pub team: i32,
+    pub node: i32,
+    pub position: i32,
+    pub amount: i32,
+}
+
+pub struct Answer {
+    pub code: u32,
+    pub state: u32,
+    pub from: u32,
+    pub to: u32,
+    pub owner: u32,
+    pub left: u32,
+}
+
+// A request's answer, with the ledger after it.
+pub struct Answered {
+    pub ledger: Ledger,
+    pub answer: Answer,
+}
+
+// All that a request sees of a well-formed ledger: a few numbers, the number that a new pair would get, and its node.
+pub struct View {
+    pub teams: u32,
+    pub room: u32,
+    pub used: u32,
+    pub stolen: u32,
+    pub pair: u32,
+    pub node: Node,
+}
+
+// What a request does to the table: nothing, one node stored, or one node stored with a new pair of children.
+pub enum Change {
+    Keep,
+    Store(Node),
+    Split {
+        parent: Node,
+        pair: u32,
+        left: Node,
+        right: Node,
+    },
+}
+
+pub struct Outcome {
+    pub answer: Answer,
+    pub change: Change,
+}
+
+// The unclaimed count, or the code of its refusal with a count of 0.
+pub struct Unclaimed {
+    pub code: u32,
+    pub count: u64,
+}
+
+impl Opening {
+    // The largest end of a range.
+    pub const UNTIL: u32 = 2147483647;
+
+    pub const TEAMS: u32 = 32;
+    // The largest step of a run.
+    pub const CAP: u32 = 4096;
+    // The largest table room, and so the number of slots.
+    pub const NODES: usize = 1023;
+
+    // Whether the numbers are within an opening's limits.
+    pub fn is_good(self) -> bool
+        ensures { λ r. ⌜ r ≡ opens self ⌝ }
+    {
+        let ordered = numbers::in_range(self.start, 0, numbers::natural(self.until));
+        let ends = numbers::in_range(self.until, 0, Opening::UNTIL);
+        let some = numbers::in_range(self.teams, 1, Opening::TEAMS);
+        let steps = numbers::in_range(self.cap, 1, Opening::CAP);
+        let room = numbers::in_range(self.nodes, 1, Opening::NODES as u32);
+        ordered & ends & some & steps & room
+    }
+}
+
+impl Request {
+    // The largest amount of one advance.
+    pub const AMOUNT: u32 = 4096;
+}
