@@ -1,0 +1,6 @@
+-- What follows from the definitions of specs/.
+pub mod Nodes
+pub mod Sums
+pub mod States
+pub mod Facts
+pub mod Record
