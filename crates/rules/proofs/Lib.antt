@@ -4,3 +4,5 @@ pub mod Sums
 pub mod States
 pub mod Facts
 pub mod Record
+pub mod Tests
+pub mod Granted
