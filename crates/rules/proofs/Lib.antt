@@ -6,3 +6,7 @@ pub mod Facts
 pub mod Record
 pub mod Tests
 pub mod Granted
+pub mod Split
+pub mod Store
+pub mod Expand
+pub mod Keeps
