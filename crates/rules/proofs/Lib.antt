@@ -10,3 +10,5 @@ pub mod Split
 pub mod Store
 pub mod Expand
 pub mod Keeps
+pub mod Opens
+pub mod Range
