@@ -4,6 +4,7 @@ use mathlib.Core.Logic.{_≢_}
 use mathlib.Core.Bool.{Bool, true, false, cond, true≢false}
 use Prim.Native.Nat.{ℕ, zero, suc, _+_, _-_, _*_, _≤_, _<_, min}
 use native.Mathlib.Omega.{arith}
+use native.Mathlib.Decide.{decLt}
 use lib.IntN.{pos, negsuc}
 use lib.ListN.{length}
 use Rattle.numbers.specs.Fields.{natOf}
@@ -34,8 +35,12 @@ module _ (l : Ledger) (w : WF l) (r : Request) (asked : Asked (l .teams) (l .use
   alone = w .alone n (asked .node .low) (asked .node .high)
 
   -- no node has children before its mark
-  childless : marked x ≡ false → 0 < x .left → ⊥
-  childless plain h = true≢false (sym (w .pair n (asked .node .low) (asked .node .high) h .mark) ∙ plain)
+  pub no-children : marked x ≡ false → x .left ≡ 0
+  no-children plain = go (decLt 0 (x .left))
+    where
+      go : Dec (0 < x .left) → x .left ≡ 0
+      go (yes h) = absurd (true≢false (sym (w .pair n (asked .node .low) (asked .node .high) h .mark) ∙ plain))
+      go (no h) = omega arith
 
   wf-owned : Owning x → WF (put l n (owned x (natOf (r .team))))
   wf-owned o =
@@ -71,7 +76,7 @@ module _ (l : Ledger) (w : WF l) (r : Request) (asked : Asked (l .teams) (l .use
       y
       (asked .node .low)
       (asked .node .high)
-      (record { start = refl; until = refl; left = refl; still = λ h. absurd (childless (p .plain) h) })
+      (record { start = refl; until = refl; left = refl; still = λ h. absurd (omega (arith, no-children (p .plain))) })
       (record {
         low = omega (arith, a .end, alone .low, alone .high);
         high = omega (arith, a .end);
@@ -96,7 +101,7 @@ module _ (l : Ledger) (w : WF l) (r : Request) (asked : Asked (l .teams) (l .use
       y
       (asked .node .low)
       (asked .node .high)
-      (record { start = refl; until = refl; left = refl; still = λ h. absurd (childless (p .plain) h) })
+      (record { start = refl; until = refl; left = refl; still = λ h. absurd (omega (arith, no-children (p .plain))) })
       (record {
         low = alone .low;
         high = alone .high;
@@ -128,19 +133,23 @@ pub requested-wf : (l : Ledger) (r : Request) → WF l → requested l r ≡ ans
 unfolding requested
 requested-wf l r w = rw (rules-back l w)
 
-answers-keep : {l : Ledger} {r : Request} {a : Answered} → Answers l r a → a .answer .code ≢ 0 → a .ledger ≡ l
+answers-keep : {l : Ledger} {r : Request} {a : Answered} → Answers l r a → a .answer .code ≢ 0
+    → a ≡ record { ledger = l; answer = refused (a .answer .code) }
 answers-keep (refuses h) ne = refl
 answers-keep (owns k q f) ne = absurd (ne refl)
 answers-keep (advances k q f) ne = absurd (ne refl)
 answers-keep (marks k q f) ne = absurd (ne refl)
 answers-keep (expands k q f) ne = absurd (ne refl)
-answers-keep (looks k q) ne = refl
+answers-keep (looks k q) ne = absurd (ne refl)
 
-pub refused-keeps : (l : Ledger) (r : Request) → requested l r .answer .code ≢ 0 → requested l r .ledger ≡ l
+pub refused-keeps : (l : Ledger) (r : Request) → requested l r .answer .code ≢ 0
+    → requested l r ≡ record { ledger = l; answer = refused (requested l r .answer .code) }
 unfolding requested
 refused-keeps l r = go (wellFormed l)
   where
-    go : (b : Bool) → cond b (answered l r) (record { ledger = l; answer = refused 1 }) .answer .code ≢ 0
-        → cond b (answered l r) (record { ledger = l; answer = refused 1 }) .ledger ≡ l
+    given : Bool → Answered
+    given b = cond b (answered l r) (record { ledger = l; answer = refused 1 })
+
+    go : (b : Bool) → given b .answer .code ≢ 0 → given b ≡ record { ledger = l; answer = refused (given b .answer .code) }
     go true ne = answers-keep (answers l r) ne
     go false ne = refl

@@ -12,3 +12,5 @@ pub mod Expand
 pub mod Keeps
 pub mod Opens
 pub mod Range
+pub mod Moves
+pub mod Demands

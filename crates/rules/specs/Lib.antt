@@ -10,3 +10,4 @@ pub mod Tests
 pub mod Refusals
 pub mod Requests
 pub mod Count
+pub mod Demands
