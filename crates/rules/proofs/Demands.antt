@@ -1,11 +1,9 @@
 -- The demands on the ledger, proved.
-use mathlib.Core.Path.{_≡_, refl, sym, ap, _∙_}
+use mathlib.Core.Path.{_≡_, refl}
 use mathlib.Core.Bool.{Bool, true, false, cond}
-use Prim.Native.Nat.{ℕ}
 use native.Mathlib.Omega.{arith}
 use Rattle.numbers.specs.Fields.{natOf}
 use Rattle.rules.specs.declared.Ledger.{Ledger}
-use Rattle.rules.specs.declared.Opening.{Opening}
 use Rattle.rules.specs.declared.Opened.{Opened}
 use Rattle.rules.specs.declared.Request.{Request}
 use Rattle.rules.specs.Demands.{OpeningWellFormed, RequestsKeepWellFormed, RefusalsChangeNothing, RoomForEverySplit, Moves, RequestsFollowMoves}

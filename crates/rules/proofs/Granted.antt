@@ -1,12 +1,11 @@
 -- What is so when a request is granted, kind by kind, with what it then answers and does.
 use mathlib.Core.Path.{_≡_, refl, sym, ap, _∙_}
 use mathlib.Core.Logic.{_≢_}
-use mathlib.Core.Bool.{Bool, true, false, cond, not, false≢true, true≢false}
-use Prim.Native.Nat.{ℕ, zero, suc, _+_, _-_, _*_, _≤_, _<_, min}
-use native.Mathlib.Omega.{arith}
-use lib.Dec.{eqb, ltb}
+use mathlib.Core.Bool.{Bool, true, false, cond, not, true≢false}
+use Prim.Native.Nat.{ℕ, _+_, _*_, _≤_, min}
+use lib.Dec.{eqb}
 use lib.IntN.{ℤ, pos, negsuc}
-use borrow.Author.Tests.{eqb-true, eqb-false, eq-eqb, ltb-false, not-false}
+use borrow.Author.Tests.{eqb-true, eqb-false, ltb-false, not-false}
 use Rattle.numbers.specs.Progress.{negative, position, mark as markOf}
 use Rattle.numbers.specs.Fields.{isNat, within, natOf, sameNumber}
 use Rattle.numbers.proofs.Laws.{Within, within-true, isNat-true, isNat-made, same-true}
@@ -23,7 +22,7 @@ use Rattle.rules.specs.States.{completed}
 use Rattle.rules.specs.Table.{at, put, grown, stolenIn}
 use Rattle.rules.specs.Refusals.{allTests, ownTests, advanceTests, markTests, expandTests, ownCode, advanceCode, markCode, expandCode, kindCode, refusal}
 use Rattle.rules.specs.Requests.{refused, ranged, split, seen, outcome, owning, batchEnd, advancing, marking, expanding, looking, granted, decided, view, changed, nodeIn, answered}
-use Rattle.rules.proofs.Tests.{Passed, passed, Kind, own, advance, mark, expand, look, kind-of}
+use Rattle.rules.proofs.Tests.{passed, Kind, own, advance, mark, expand, look, kind-of}
 
 -- ---- the facts of each kind
 

@@ -1,27 +1,25 @@
 -- Every request keeps a ledger well formed, and a refused one changes nothing.
-use mathlib.Core.Path.{_≡_, refl, sym, ap, _∙_}
+use mathlib.Core.Path.{_≡_, refl, sym, _∙_}
 use mathlib.Core.Logic.{_≢_}
 use mathlib.Core.Bool.{Bool, true, false, cond, true≢false}
-use Prim.Native.Nat.{ℕ, zero, suc, _+_, _-_, _*_, _≤_, _<_, min}
+use Prim.Native.Nat.{ℕ, _+_, _*_, _<_}
 use native.Mathlib.Omega.{arith}
 use native.Mathlib.Decide.{decLt}
 use lib.IntN.{pos, negsuc}
-use lib.ListN.{length}
 use Rattle.numbers.specs.Fields.{natOf}
 use Rattle.numbers.proofs.Laws.{isNat-made}
 use Rattle.rules.specs.declared.Node.{Node}
 use Rattle.rules.specs.declared.Ledger.{Ledger}
 use Rattle.rules.specs.declared.Request.{Request}
 use Rattle.rules.specs.declared.Answered.{Answered}
-use Rattle.rules.specs.Nodes.{owned, moved, marked, positionOf, leftOver}
-use Rattle.rules.specs.States.{completed, stolenOf}
+use Rattle.rules.specs.Nodes.{owned, moved, marked, positionOf}
 use Rattle.rules.specs.Table.{at, put, stolenIn}
 use Rattle.rules.specs.WellFormed.{wellFormed}
 use Rattle.rules.specs.Requests.{refused, batchEnd, nodeIn, answered, requested}
-use Rattle.rules.proofs.Record.{WF, Alone, rules, rules-back}
-use Rattle.rules.proofs.States.{Stolen, owned-same, unmarked-none, at-most-one}
-use Rattle.rules.proofs.Granted.{Asked, Owning, Advancing, Marking, Expanding, Answers, refuses, owns, advances, marks, expands, looks, answers}
-use Rattle.rules.proofs.Store.{Swap, wf-store}
+use Rattle.rules.proofs.Record.{WF, Alone, rules-back}
+use Rattle.rules.proofs.States.{owned-same, unmarked-none, at-most-one}
+use Rattle.rules.proofs.Granted.{Asked, Owning, Advancing, Marking, Answers, refuses, owns, advances, marks, expands, looks, answers}
+use Rattle.rules.proofs.Store.{wf-store}
 use Rattle.rules.proofs.Expand.{wf-split}
 
 module _ (l : Ledger) (w : WF l) (r : Request) (asked : Asked (l .teams) (l .used) r) where

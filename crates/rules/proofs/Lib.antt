@@ -13,4 +13,5 @@ pub mod Keeps
 pub mod Opens
 pub mod Range
 pub mod Moves
+pub mod Examples
 pub mod Demands

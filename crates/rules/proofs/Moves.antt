@@ -1,15 +1,14 @@
 -- The rule of moves says what requests do to a well-formed ledger.
-use mathlib.Core.Path.{_≡_, refl, sym, ap, _∙_}
+use mathlib.Core.Path.{_≡_, refl, ap}
 use mathlib.Core.Logic.{_≢_, _⊎_, inl, inr}
-use mathlib.Core.Bool.{Bool, true, false, cond, false≢true}
+use mathlib.Core.Bool.{Bool, true, false, false≢true}
 use mathlib.Core.List.{List, [], _∷_}
-use Prim.Native.Nat.{ℕ, _+_, _*_, _≤_, _<_}
+use Prim.Native.Nat.{ℕ, _+_, _*_, _≤_}
 use native.Mathlib.Omega.{arith}
 use lib.IntN.{pos, negsuc}
 use lib.ListN.{length}
-use borrow.Author.Tests.{eq-eqb, ne-eqb}
 use Rattle.numbers.specs.Progress.{negative}
-use Rattle.numbers.specs.Fields.{natOf, isNat}
+use Rattle.numbers.specs.Fields.{natOf}
 use Rattle.rules.specs.declared.Node.{Node}
 use Rattle.rules.specs.declared.Ledger.{Ledger}
 use Rattle.rules.specs.declared.Request.{Request}
@@ -17,14 +16,14 @@ use Rattle.rules.specs.declared.Answered.{Answered}
 use Rattle.rules.specs.Moves.{leads, isIn}
 use Rattle.rules.specs.Nodes.{owned, moved, parted, marked, positionOf, leftPart, rightPart}
 use Rattle.rules.specs.Requests.{batchEnd, nodeIn}
-use Rattle.rules.specs.States.{AVAILABLE, OWNED, COMPLETED, STOLEN, EXPANDED, completed, stateOf}
+use Rattle.rules.specs.States.{OWNED, COMPLETED, completed, stateOf}
 use Rattle.rules.specs.Table.{at, put, stolenIn}
 use Rattle.rules.proofs.Granted.{Asked, Owning, Advancing, Marking, Expanding, Answers, refuses, owns, advances, marks, expands, looks}
 use Rattle.rules.proofs.Keeps.{no-children}
 use Rattle.rules.proofs.Nodes.{at-same, at-other}
 use Rattle.rules.proofs.Record.{WF}
 use Rattle.rules.proofs.Split.{split-here, split-other}
-use Rattle.rules.proofs.States.{Owned, available-is, owned-is, completed-is, stolen-is, expanded-is}
+use Rattle.rules.proofs.States.{available-is, owned-is, completed-is, stolen-is, expanded-is}
 
 -- a state after a request of a kind, from the state before
 abbrev Leads : Node → ℕ → Node → Type 0

@@ -1,11 +1,11 @@
 -- Reading a node of a changed ledger.
-use mathlib.Core.Path.{_≡_, refl, sym, ap, _∙_}
+use mathlib.Core.Path.{_≡_, refl, ap}
 use mathlib.Core.Logic.{_≢_}
 use mathlib.Core.List.{List}
 use Prim.Native.Nat.{ℕ, _+_, _-_, _≤_, _<_}
 use native.Mathlib.Omega.{arith}
-use lib.ListN.{length, getD, set, length-set, List·getD-eq-default}
-use lib.Seq.{getD-set-same, getD-set-other, set-getD, set-set}
+use lib.ListN.{length, getD, length-set, List·getD-eq-default}
+use lib.Seq.{getD-set-same, getD-set-other, set-getD}
 use Rattle.rules.specs.declared.Node.{Node}
 use Rattle.rules.specs.declared.Ledger.{Ledger}
 use Rattle.rules.specs.Nodes.{blank}

@@ -1,13 +1,12 @@
 -- An opening within its limits makes a well-formed ledger.
-use mathlib.Core.Path.{_≡_, refl, sym, ap, _∙_}
-use mathlib.Core.Bool.{Bool, true, false}
-use mathlib.Core.List.{List, [], _∷_}
-use Prim.Native.Nat.{ℕ, zero, suc, _+_, _-_, _*_, _%_, _≤_, _<_}
+use mathlib.Core.Path.{_≡_, refl, ap, _∙_}
+use mathlib.Core.Bool.{true}
+use mathlib.Core.List.{_∷_}
+use Prim.Native.Nat.{ℕ, zero, suc, _+_, _-_, _*_, _≤_, _<_}
 use native.Mathlib.Omega.{arith}
-use lib.ListN.{length, replicate, length-replicate, getD}
-use Rattle.numbers.specs.Fields.{natOf, within}
+use lib.ListN.{replicate, length-replicate, getD}
+use Rattle.numbers.specs.Fields.{natOf}
 use Rattle.numbers.proofs.Laws.{Within, within-true}
-use Rattle.rules.specs.declared.Node.{Node}
 use Rattle.rules.specs.declared.Ledger.{Ledger}
 use Rattle.rules.specs.declared.Opening.{Opening}
 use Rattle.rules.specs.Limits.{opens, maxUntil, maxTeams, maxCap, maxNodes}
@@ -20,7 +19,7 @@ use Rattle.rules.proofs.Facts.{both}
 use Rattle.rules.proofs.Record.{WF}
 use Rattle.rules.proofs.States.{fresh-none, blank-none}
 
-all-blank : (k i : ℕ) → getD (replicate k blank) i blank ≡ blank
+pub all-blank : (k i : ℕ) → getD (replicate k blank) i blank ≡ blank
 all-blank zero i = refl
 all-blank (suc k) zero = refl
 all-blank (suc k) (suc i) = all-blank k i

@@ -1,16 +1,14 @@
 -- Every node in use lies in the ledger's range.
-use mathlib.Core.Path.{_≡_, refl, sym, ap, _∙_}
-use mathlib.Core.Logic.{_≢_}
+use mathlib.Core.Path.{_≡_, refl, ap}
 use mathlib.Core.Bool.{Bool, true, false, cond}
-use Prim.Native.Nat.{ℕ, zero, suc, _+_, _-_, _*_, _/_, _%_, _≤_, _<_}
+use Prim.Native.Nat.{ℕ, zero, suc, _+_, _-_, _%_, _≤_, _<_}
 use native.Mathlib.Omega.{arith}
 use native.Mathlib.Decide.{ℕ-discrete, decLe}
 use lib.Dec.{eqb}
-use lib.ListN.{length, getD}
 use borrow.Author.Tests.{eqb-true}
 use Rattle.rules.specs.declared.Node.{Node}
 use Rattle.rules.specs.declared.Ledger.{Ledger}
-use Rattle.rules.specs.Nodes.{blank, positionOf, middle}
+use Rattle.rules.specs.Nodes.{blank, middle}
 use Rattle.rules.specs.Table.{at}
 use Rattle.rules.specs.WellFormed.{leftIs}
 use Rattle.rules.proofs.Nodes.{at-next}

@@ -1,20 +1,19 @@
 -- Well formed, as a record of plain facts, and that the two are the same.
-use Prim.Native.Nat.{ℕ, zero, suc, _+_, _-_, _*_, _/_, _%_, _<_, _≤_, zero-le}
-use mathlib.Core.Path.{_≡_, refl, sym, ap, _∙_}
-use mathlib.Core.Logic.{_↔_, _≢_}
-use mathlib.Core.Bool.{Bool, true, false, not, _&&_, _||_}
+use Prim.Native.Nat.{ℕ, _+_, _*_, _%_, _<_, _≤_, zero-le}
+use mathlib.Core.Path.{_≡_}
+use mathlib.Core.Logic.{_↔_}
+use mathlib.Core.Bool.{true, false}
 use native.Mathlib.Omega.{arith}
 use native.Mathlib.Decide.{decLe}
-use lib.Dec.{leb, ltb, eqb, lit≤}
+use lib.Dec.{lit≤}
 use lib.IntN.{ℤ, pos}
 use lib.ListN.{length}
-use Rattle.numbers.specs.Fields.{isNat}
 use Rattle.rules.specs.declared.Node.{Node}
 use Rattle.rules.specs.declared.Ledger.{Ledger}
 use Rattle.rules.specs.Limits.{opens}
-use Rattle.rules.specs.Nodes.{blank, marked, unowned, childless, positionOf, middle}
+use Rattle.rules.specs.Nodes.{blank, marked, unowned, positionOf, middle}
 use Rattle.rules.specs.Table.{at, sumBy, stolenIn}
-use Rattle.rules.specs.WellFormed.{upTo, wellFormed, nodeRule, aloneRule, childRule, pairRule, unusedRule, isBlank, leftIs}
+use Rattle.rules.specs.WellFormed.{wellFormed, nodeRule, aloneRule, childRule, pairRule, unusedRule, isBlank, leftIs}
 use Rattle.rules.proofs.Facts.{facts, both, either, leb-f}
 use Rattle.rules.proofs.Nodes.{at-out}
 
@@ -126,7 +125,7 @@ module _ (l : Ledger) where
   unfolding unusedRule
   unused-back n h = simp (either, leb-f, blank-t (at l n)) h
 
-  unused-t : (n : ℕ) → unusedRule l n ≡ true ↔ (l .used < n → at l n ≡ blank)
+  pub unused-t : (n : ℕ) → unusedRule l n ≡ true ↔ (l .used < n → at l n ≡ blank)
   unused-t n = (unused-out n, unused-back n)
 
 -- the same facts with the ranges that the tests go over

@@ -1,13 +1,13 @@
 -- A node's state, read as facts about the node, and made from them; and who counts as STOLEN.
-use mathlib.Core.Path.{_≡_, refl, sym, ap, _∙_}
+use mathlib.Core.Path.{_≡_, refl, sym, _∙_}
 use mathlib.Core.Logic.{_≢_}
 use mathlib.Core.Bool.{Bool, true, false, cond, not, _&&_}
-use Prim.Native.Nat.{ℕ, zero, suc, _+_, _-_, _≤_, _<_}
+use Prim.Native.Nat.{ℕ, _≤_, _<_}
 use native.Mathlib.Omega.{arith}
 use lib.Dec.{eqb}
 use lib.IntN.{ℤ, pos, negsuc}
 use borrow.Author.Tests.{eqb-true, eqb-false, eq-eqb, ne-eqb}
-use Rattle.numbers.specs.Progress.{negative, position}
+use Rattle.numbers.specs.Progress.{negative}
 use Rattle.numbers.specs.Fields.{isNat}
 use Rattle.numbers.proofs.Laws.{isNat-true}
 use Rattle.rules.specs.declared.Node.{Node}

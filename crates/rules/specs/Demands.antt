@@ -10,6 +10,7 @@ use Rattle.numbers.specs.Fields.{natOf}
 use Rattle.rules.specs.declared.Ledger.{Ledger}
 use Rattle.rules.specs.declared.Opening.{Opening}
 use Rattle.rules.specs.declared.Request.{Request}
+use Rattle.rules.specs.Examples.{examples, AllRight}
 use Rattle.rules.specs.Limits.{maxNodes}
 use Rattle.rules.specs.Moves.{leads, isIn}
 use Rattle.rules.specs.Opening.{opening}
@@ -52,3 +53,7 @@ pub record Moves (l : Ledger) (r : Request) (next : Ledger) : Type 0 where
 abbrev pub RequestsFollowMoves : Type 0
 RequestsFollowMoves =
     (l : Ledger) (r : Request) → length (l .nodes) ≡ maxNodes → wellFormed l ≡ true → Moves l r (requested l r .ledger)
+
+-- The twelve examples are as the document has them.
+abbrev pub TwelveExamples : Type 0
+TwelveExamples = AllRight examples
