@@ -6,7 +6,7 @@ use native.Mathlib.Omega.{arith}
 use lib.ListN.{take, drop, replicate}
 use lib.Seq.{getD-drop}
 use Rattle.rules.specs.declared.Ledger.{Ledger}
-use Rattle.rules.specs.Examples.{Example, Right, done, also}
+use Rattle.rules.specs.Examples.{Example, Right}
 use Rattle.rules.specs.Demands.{TwelveExamples}
 use Rattle.rules.specs.Limits.{opens}
 use Rattle.rules.specs.Nodes.{blank, middle, leftPart, rightPart}
@@ -47,6 +47,9 @@ right x k e t rest answer nodes =
     let w = good (x .ledger) k e t in
     record { unclaimed = rw (w, rest); answered = rw w answer; afterwards = rw w nodes }
 
+also : {A B : Type 0} → A → B → A × B
+also a b = (a, b)
+
 pub twelve-examples : TwelveExamples
 unfolding opens middle leftPart rightPart stateOf stolenOf at put grown sumBy stolenIn upTo aloneRule childRule nodeRule leftIs pairRule ownCode advanceCode markCode expandCode kindCode refusal owning batchEnd advancing marking expanding looking granted decided view changed answered restOf unclaimed
 twelve-examples =
@@ -61,4 +64,4 @@ twelve-examples =
     (also (right _ 1020 refl refl refl refl refl)
     (also (right _ 1022 refl refl refl refl refl)
     (also (right _ 1022 refl refl refl refl refl)
-    (also (right _ 1022 refl refl refl refl refl) done)))))))))))
+    (also (right _ 1022 refl refl refl refl refl) tt)))))))))))

@@ -3,9 +3,10 @@ use mathlib.Core.Path.{_≡_, refl, sym, ap, _∙_}
 use mathlib.Core.Logic.{_≢_}
 use mathlib.Core.Bool.{Bool, true, false, cond, not, true≢false}
 use Prim.Native.Nat.{ℕ, _+_, _*_, _≤_, min}
+use native.Mathlib.Omega.{arith}
 use lib.Dec.{eqb}
 use lib.IntN.{ℤ, pos, negsuc}
-use borrow.Author.Tests.{eqb-true, eqb-false, ltb-false, not-false}
+use borrow.Author.Tests.{eqb-true, eqb-false, not-false}
 use Rattle.numbers.specs.Progress.{negative, position, mark as markOf}
 use Rattle.numbers.specs.Fields.{isNat, within, natOf, sameNumber}
 use Rattle.numbers.proofs.Laws.{Within, within-true, isNat-true, isNat-made, same-true}
@@ -22,6 +23,7 @@ use Rattle.rules.specs.States.{completed}
 use Rattle.rules.specs.Table.{at, put, grown, stolenIn}
 use Rattle.rules.specs.Refusals.{allTests, ownTests, advanceTests, markTests, expandTests, ownCode, advanceCode, markCode, expandCode, kindCode, refusal}
 use Rattle.rules.specs.Requests.{refused, ranged, split, seen, outcome, owning, batchEnd, advancing, marking, expanding, looking, granted, decided, view, changed, nodeIn, answered}
+use Rattle.rules.proofs.Facts.{ltb-f}
 use Rattle.rules.proofs.Tests.{passed, Kind, own, advance, mark, expand, look, kind-of}
 
 -- ---- the facts of each kind
@@ -151,7 +153,7 @@ mark-facts v r team e =
       other = λ f. true≢false (sym (rw (team, ← f) (isNat-made (v .node .owner))) ∙ t .1 .0);
       here = here-is (v .node) r (t .1 .1 .0) (t .1 .1 .1 .0) (t .1 .1 .1 .1 .0);
       two = eqb-false (leftOver (v .node)) 1 (t .1 .1 .1 .1 .1 .0);
-      fits = ltb-false (v .room) (v .used + 2 * v .stolen + 2) (t .1 .1 .1 .1 .1 .1 .0);
+      fits = omega (arith, simp ltb-f at (t .1 .1 .1 .1 .1 .1 .0));
     }
 
 pub expand-facts : (v : View) → expandCode v ≡ 0 → Expanding (v .node) (v .used) (v .room)
@@ -161,7 +163,7 @@ expand-facts v e =
     record {
       mark = not-false (marked (v .node)) (t .0);
       leaf = eqb-true (v .node .left) 0 (not-false (childless (v .node)) (t .1 .0));
-      fits = ltb-false (v .room) (v .used + 2) (t .1 .1 .0);
+      fits = omega (arith, simp ltb-f at (t .1 .1 .0));
     }
 
 pub asked-facts : (v : View) (r : Request) → refusal v r ≡ 0 → Asked (v .teams) (v .used) r × (kindCode v r ≡ 0)
@@ -211,11 +213,17 @@ module _ (l : Ledger) (r : Request) where
         let f = advance-facts x r (unfold kindCode in (rw e at code)) in
         rw (e, f .here .position-is) (advances e asked f)
 
+    -- a progress that is the position's mark
+    marks-as : (p : ℤ) → p ≡ negsuc (positionOf x) → natOf (r .kind) ≡ 3
+        → Marking x r (l .used + 2 * stolenIn l) (l .room)
+        → Answers l r (record { ledger = put l n (moved x p); answer = ranged (positionOf x) (x .until) })
+    marks-as p is e f = rw is (marks e asked f)
+
     given-mark : natOf (r .kind) ≡ 3 → Answers l r given
     unfolding given granted changed marking view
     given-mark e =
         let f = mark-facts v r (asked .team .is) (unfold kindCode in (rw e at code)) in
-        rw (e, f .here .position-is, f .here .mark-is) (marks e asked f)
+        rw (e, f .here .position-is) (marks-as _ (f .here .mark-is) e f)
 
     given-expand : natOf (r .kind) ≡ 4 → Answers l r given
     unfolding given granted changed expanding view

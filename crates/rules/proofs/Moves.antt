@@ -2,7 +2,7 @@
 use mathlib.Core.Path.{_≡_, refl, ap}
 use mathlib.Core.Logic.{_≢_, _⊎_, inl, inr}
 use mathlib.Core.Bool.{Bool, true, false, false≢true}
-use mathlib.Core.List.{List, [], _∷_}
+use mathlib.Core.List.{List, []}
 use Prim.Native.Nat.{ℕ, _+_, _*_, _≤_}
 use native.Mathlib.Omega.{arith}
 use lib.IntN.{pos, negsuc}
@@ -16,7 +16,7 @@ use Rattle.rules.specs.declared.Answered.{Answered}
 use Rattle.rules.specs.Moves.{leads, isIn}
 use Rattle.rules.specs.Nodes.{owned, moved, parted, marked, positionOf, leftPart, rightPart}
 use Rattle.rules.specs.Requests.{batchEnd, nodeIn}
-use Rattle.rules.specs.States.{OWNED, COMPLETED, completed, stateOf}
+use Rattle.rules.specs.States.{AVAILABLE, OWNED, COMPLETED, STOLEN, EXPANDED, completed, stateOf}
 use Rattle.rules.specs.Table.{at, put, stolenIn}
 use Rattle.rules.proofs.Granted.{Asked, Owning, Advancing, Marking, Expanding, Answers, refuses, owns, advances, marks, expands, looks}
 use Rattle.rules.proofs.Keeps.{no-children}
@@ -29,6 +29,10 @@ use Rattle.rules.proofs.States.{available-is, owned-is, completed-is, s
 abbrev Leads : Node → ℕ → Node → Type 0
 Leads x kind y = isIn (stateOf y) (leads (stateOf x) kind) ≡ true
 
+-- by the two states, of which the rule speaks
+leads-by : (x y : Node) (kind s t : ℕ) → stateOf x ≡ s → stateOf y ≡ t → isIn t (leads s kind) ≡ true → Leads x kind y
+leads-by x y kind s t e f h = rw (e, f) h
+
 module _ (l : Ledger) (w : WF l) (r : Request) (asked : Asked (l .teams) (l .used) r) where
   abbrev n : ℕ
   n = nodeIn r
@@ -40,16 +44,23 @@ module _ (l : Ledger) (w : WF l) (r : Request) (asked : Asked (l .teams) (l .use
   unfolding leads isIn
   own-leads o =
       let plain = ap negative (w .alone n (asked .node .low) (asked .node .high) .unowned (o .nobody)) in
-      rw
-      (available-is x (record { going = o .going; plain = plain; nobody = o .nobody }), owned-is (owned x (natOf (r .team))) (record { going = o .going; plain = plain; somebody = omega (arith, asked .team .low) }))
+      let y = owned x (natOf (r .team)) in
+      leads-by
+      x
+      y
+      1
+      AVAILABLE
+      OWNED
+      (available-is x (record { going = o .going; plain = plain; nobody = o .nobody }))
+      (owned-is y (record { going = o .going; plain = plain; somebody = omega (arith, asked .team .low) }))
+      refl
 
   was-owned : marked x ≡ false → completed x ≡ false → x .owner ≢ 0 → stateOf x ≡ OWNED
   was-owned p g s = owned-is x (record { going = g; plain = p; somebody = s })
 
   -- on to the end, or not yet
   advance-leads : Advancing x r → Leads x 2 (moved x (pos (batchEnd x r)))
-  unfolding leads isIn
-  advance-leads a = rw (was-owned (a .here .plain) (a .here .going) some) (go (completed y) refl)
+  advance-leads a = go (completed y) refl
     where
       y : Node
       y = moved x (pos (batchEnd x r))
@@ -57,22 +68,42 @@ module _ (l : Ledger) (w : WF l) (r : Request) (asked : Asked (l .teams) (l .use
       some : x .owner ≢ 0
       some = omega (arith, a .mine, asked .team .low)
 
-      go : (b : Bool) → completed y ≡ b → isIn (stateOf y) (OWNED ∷ COMPLETED ∷ []) ≡ true
-      go true e = rw (completed-is y e)
-      go false e = rw (owned-is y (record { going = e; plain = refl; somebody = some }))
+      was : stateOf x ≡ OWNED
+      was = was-owned (a .here .plain) (a .here .going) some
+
+      go : (b : Bool) → completed y ≡ b → Leads x 2 y
+      go true e = unfold leads isIn in (leads-by x y 2 OWNED COMPLETED was (completed-is y e) refl)
+      go false e =
+          unfold leads isIn in
+          (leads-by x y 2 OWNED OWNED was (owned-is y (record { going = e; plain = refl; somebody = some })) refl)
 
   mark-leads : Marking x r (l .used + 2 * stolenIn l) (l .room) → Leads x 3 (moved x (negsuc (positionOf x)))
   unfolding leads isIn
   mark-leads m =
-      let leaf = no-children l w r asked (m .here .plain) in
-      rw
-      (was-owned (m .here .plain) (m .here .going) (m .somebody), stolen-is (moved x (negsuc (positionOf x))) (record { mark = refl; leaf = leaf }))
+      let y = moved x (negsuc (positionOf x)) in
+      leads-by
+      x
+      y
+      3
+      OWNED
+      STOLEN
+      (was-owned (m .here .plain) (m .here .going) (m .somebody))
+      (stolen-is y (record { mark = refl; leaf = no-children l w r asked (m .here .plain) }))
+      refl
 
   expand-leads : Expanding x (l .used) (l .room) → Leads x 4 (parted x (l .used + 1))
   unfolding leads isIn
   expand-leads e =
-      rw
-      (stolen-is x (record { mark = e .mark; leaf = e .leaf }), expanded-is (parted x (l .used + 1)) (record { mark = e .mark; parent = omega arith }))
+      let y = parted x (l .used + 1) in
+      leads-by
+      x
+      y
+      4
+      STOLEN
+      EXPANDED
+      (stolen-is x (record { mark = e .mark; leaf = e .leaf }))
+      (expanded-is y (record { mark = e .mark; parent = omega arith }))
+      refl
 
   pub fits : nodeIn r ≤ length (l .nodes)
   fits = omega (arith, asked .node .high, w .used-room, w .room-high, w .slots)

@@ -1,4 +1,4 @@
--- "Twelve examples to prove together", in the document's order and letters.
+-- "Twelve examples to prove together", in the document's order and letters. A progress `negsuc n` is −n−1.
 use mathlib.Core.Path.{_≡_}
 use mathlib.Core.List.{List, [], _∷_}
 use Prim.Native.Nat.{ℕ}
@@ -99,7 +99,7 @@ pub record Right (x : Example) : Type 0 where
   pub answered : requested (x .ledger) (x .asked) .answer ≡ x .answer
   pub afterwards : take (requested (x .ledger) (x .asked) .ledger .used) (requested (x .ledger) (x .asked) .ledger .nodes) ≡ x .nodes
 
--- and all of a list are
-pub data AllRight : List Example → Type 0 where
-  done : AllRight []
-  also : {x : Example} {xs : List Example} → Right x → AllRight xs → AllRight (x ∷ xs)
+-- and so is each of a list
+abbrev pub AllRight : List Example → Type 0
+AllRight [] = Unit {0}
+AllRight (x ∷ xs) = Right x × AllRight xs
