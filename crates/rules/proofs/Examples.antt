@@ -6,7 +6,7 @@ use native.Mathlib.Omega.{arith}
 use lib.ListN.{take, drop, replicate}
 use lib.Seq.{getD-drop}
 use Rattle.rules.specs.declared.Ledger.{Ledger}
-use Rattle.rules.specs.Examples.{Example, Right}
+use Rattle.rules.specs.Examples.{Example, Right, example-a, example-b, example-c, example-d, example-e, example-f, example-g, example-h, example-i, example-j, example-k, example-l}
 use Rattle.rules.specs.Demands.{TwelveExamples}
 use Rattle.rules.specs.Limits.{opens}
 use Rattle.rules.specs.Nodes.{blank, middle, leftPart, rightPart}
@@ -53,15 +53,15 @@ also a b = (a, b)
 pub twelve-examples : TwelveExamples
 unfolding opens middle leftPart rightPart stateOf stolenOf at put grown sumBy stolenIn upTo aloneRule childRule nodeRule leftIs pairRule ownCode advanceCode markCode expandCode kindCode refusal owning batchEnd advancing marking expanding looking granted decided view changed answered restOf unclaimed
 twelve-examples =
-    also (right _ 1022 refl refl refl refl refl)
-    (also (right _ 1022 refl refl refl refl refl)
-    (also (right _ 1022 refl refl refl refl refl)
-    (also (right _ 1022 refl refl refl refl refl)
-    (also (right _ 1022 refl refl refl refl refl)
-    (also (right _ 1022 refl refl refl refl refl)
-    (also (right _ 1022 refl refl refl refl refl)
-    (also (right _ 1022 refl refl refl refl refl)
-    (also (right _ 1020 refl refl refl refl refl)
-    (also (right _ 1022 refl refl refl refl refl)
-    (also (right _ 1022 refl refl refl refl refl)
-    (also (right _ 1022 refl refl refl refl refl) tt)))))))))))
+    also (right example-a 1022 refl refl refl refl refl)
+    (also (right example-b 1022 refl refl refl refl refl)
+    (also (right example-c 1022 refl refl refl refl refl)
+    (also (right example-d 1022 refl refl refl refl refl)
+    (also (right example-e 1022 refl refl refl refl refl)
+    (also (right example-f 1022 refl refl refl refl refl)
+    (also (right example-g 1022 refl refl refl refl refl)
+    (also (right example-h 1022 refl refl refl refl refl)
+    (also (right example-i 1020 refl refl refl refl refl)
+    (also (right example-j 1022 refl refl refl refl refl)
+    (also (right example-k 1022 refl refl refl refl refl)
+    (also (right example-l 1022 refl refl refl refl refl) tt)))))))))))

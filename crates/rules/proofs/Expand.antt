@@ -169,24 +169,29 @@ module _ (l : Ledger) (w : WF l) (n : ℕ) (low : 1 ≤ n) (high : n ≤ l .used
       blank
       (λ i h. no-left (l .used + 1) _ (rw at-next at (left-below (i + 1) (omega arith))))
 
-  -- each pair has one parent
-  parent-next : (c : ℕ) → 0 < c → c < l .used + 2 → c % 2 ≡ 0 → Dec (c ≡ l .used + 1) → sumBy (leftIs c) (next .nodes) ≡ 1
+  -- each pair has one parent: only the split node's left child is another than before
+  left-sums : (c : ℕ) → 0 < c → sumBy (leftIs c) (next .nodes) ≡ sumBy (leftIs c) (l .nodes) + leftIs c y
   unfolding leftPart rightPart
-  parent-next c p q e (yes f) =
-      rw
-      f
-      (omega
-      (arith, sums (leftIs (l .used + 1)) (no-left (l .used + 1) blank (omega arith)), none-yet, is-left (l .used + 1) y refl, no-left (l .used + 1) x (omega (arith, s .leaf)), no-left (l .used + 1) (leftPart x) (omega arith), no-left (l .used + 1) (rightPart x) (omega arith)))
+  left-sums c p =
+      let was = no-left c x (omega (arith, s .leaf)) in
+      let a = no-left c (leftPart x) (omega arith) in
+      let b = no-left c (rightPart x) (omega arith) in
+      omega (arith, sums (leftIs c) (no-left c blank (omega arith)))
+
+  parent-next : (c : ℕ) → 0 < c → c < l .used + 2 → c % 2 ≡ 0 → Dec (c ≡ l .used + 1) → sumBy (leftIs c) (next .nodes) ≡ 1
+  parent-next c p q e (yes f) = rw f (omega (arith, left-sums (l .used + 1) (omega arith), none-yet, is-left (l .used + 1) y refl))
   parent-next c p q e (no f) =
-      omega
-      (arith, sums (leftIs c) (no-left c blank (omega arith)), w .parent c p (omega (arith, w .odd)) e, no-left c y (omega arith), no-left c x (omega (arith, s .leaf)), no-left c (leftPart x) (omega arith), no-left c (rightPart x) (omega arith))
+      omega (arith, left-sums c p, w .parent c p (omega (arith, w .odd)) e, no-left c y (omega arith))
 
   -- one STOLEN node less makes up for the pair
   pub load-next : l .used + 2 + 2 * stolenIn next ≡ l .used + 2 * stolenIn l
   unfolding stolenIn leftPart rightPart
   load-next =
-      omega
-      (arith, sums stolenOf blank-none, stolen-one x s, parent-none y (omega arith), fresh-none (leftPart x .start) (leftPart x .until), fresh-none (rightPart x .start) (rightPart x .until))
+      let was = stolen-one x s in
+      let is = parent-none y (omega arith) in
+      let a = fresh-none (leftPart x .start) (leftPart x .until) in
+      let b = fresh-none (rightPart x .start) (rightPart x .until) in
+      omega (arith, sums stolenOf blank-none)
 
   pub wf-split : WF next
   unfolding put grown

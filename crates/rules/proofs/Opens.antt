@@ -101,7 +101,17 @@ opens-facts o e =
 pub opened-wf : (o : Opening) → opens o ≡ true → WF (ledgerOf o)
 opened-wf o e =
     let f = opens-facts o e in
-    opened-wf-of (natOf (o .start)) (natOf (o .until)) (natOf (o .teams)) (natOf (o .nodes)) (f .start .high) (f .until .high) (f .teams .low) (f .teams .high) (f .nodes .low) (f .nodes .high)
+    opened-wf-of
+    (natOf (o .start))
+    (natOf (o .until))
+    (natOf (o .teams))
+    (natOf (o .nodes))
+    (f .start .high)
+    (f .until .high)
+    (f .teams .low)
+    (f .teams .high)
+    (f .nodes .low)
+    (f .nodes .high)
 
 pub opened-root : (a b teams room : ℕ) → at (opened a b teams room) 1 ≡ fresh a b
 unfolding opened at

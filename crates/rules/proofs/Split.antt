@@ -51,5 +51,6 @@ module _ (l : Ledger) (n : ℕ) (x a b : Node) (low : 1 ≤ n) (high : n ≤ l .
       let e₂ = sumBy-put f l₁ (l .used + 1) a (omega arith) (rw put-length (omega arith)) in
       let e₃ = sumBy-put f l₂ (l .used + 1 + 1) b (omega arith) (rw (put-length, put-length) (omega arith)) in
       let b₁ = ap f (at-other l n x low (l .used + 1) (omega arith) (omega arith)) in
-      let b₂ = ap f (at-other l₁ (l .used + 1) a (omega arith) (l .used + 1 + 1) (omega arith) (omega arith) ∙ at-other l n x low (l .used + 1 + 1) (omega arith) (omega arith)) in
+      let b₂ = ap f (at-other l₁ (l .used + 1) a (omega arith) (l .used + 1 + 1) (omega arith) (omega arith)) in
+      let b₃ = ap f (at-other l n x low (l .used + 1 + 1) (omega arith) (omega arith)) in
       omega arith
