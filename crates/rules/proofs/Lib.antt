@@ -15,3 +15,8 @@ pub mod Range
 pub mod Moves
 pub mod Examples
 pub mod Demands
+pub mod Batches
+pub mod Tree
+pub mod Onward
+pub mod Whole
+pub mod Sheets
