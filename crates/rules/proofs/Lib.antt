@@ -20,3 +20,4 @@ pub mod Tree
 pub mod Onward
 pub mod Whole
 pub mod Sheets
+pub mod Sheet40

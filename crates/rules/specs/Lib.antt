@@ -14,3 +14,4 @@ pub mod Examples
 pub mod Demands
 pub mod Listing
 pub mod Sheets
+pub mod Sheet40
