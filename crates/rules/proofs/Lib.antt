@@ -21,3 +21,4 @@ pub mod Onward
 pub mod Whole
 pub mod Sheets
 pub mod Sheet40
+pub mod Once
