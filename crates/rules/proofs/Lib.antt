@@ -22,3 +22,4 @@ pub mod Whole
 pub mod Sheets
 pub mod Sheet40
 pub mod Once
+pub mod Counting
