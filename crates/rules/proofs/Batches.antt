@@ -1,18 +1,17 @@
 -- Sheets joined end to end, and what was granted after one request more.
-use mathlib.Core.Path.{_≡_, refl, ap, _∙_}
+use mathlib.Core.Path.{_≡_, ap}
 use mathlib.Core.Logic.{_≢_}
 use mathlib.Core.Bool.{and-false}
-use mathlib.Core.List.{List, [], _∷_, _++_, append-assoc, append-nil}
+use mathlib.Core.List.{List, [], _∷_, _++_, append-nil}
 use Prim.Native.Nat.{ℕ, zero, suc, _+_, _-_, _≤_}
 use native.Mathlib.Nat.{suc-add, zero-add, add-zero, add-suc}
 use native.Mathlib.Omega.{arith}
 use borrow.Author.Tests.{eq-eqb, ne-eqb}
 use Rattle.numbers.specs.Fields.{natOf}
-use Rattle.rules.specs.declared.Ledger.{Ledger}
 use Rattle.rules.specs.declared.Request.{Request}
 use Rattle.rules.specs.declared.Answer.{Answer}
-use Rattle.rules.specs.Listing.{following, sheets, afterAll, Batch, batchOf, grantedFrom}
-use Rattle.rules.specs.Requests.{refused, nodeIn, requested}
+use Rattle.rules.specs.Listing.{following, sheets, Batch, batchOf, grantedFrom}
+use Rattle.rules.specs.Requests.{refused, nodeIn}
 
 -- ---- sheets
 
