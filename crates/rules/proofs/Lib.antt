@@ -15,6 +15,7 @@ pub mod Range
 pub mod Moves
 pub mod Examples
 pub mod Demands
+pub mod Claims
 pub mod Batches
 pub mod Tree
 pub mod Onward

@@ -30,7 +30,7 @@ use Rattle.rules.proofs.Onward.{requested-later, run-later}
 use Rattle.rules.proofs.Opens.{opened-wf}
 use Rattle.rules.proofs.Record.{WF}
 use Rattle.rules.proofs.Sheets.{begun}
-use Rattle.rules.proofs.Sheet40.{Claimed, is-claimed}
+use Rattle.rules.proofs.Claims.{Claimed, is-claimed}
 use Rattle.rules.proofs.Split.{split-sum}
 use Rattle.rules.proofs.Sums.{sumBy-put}
 
@@ -221,7 +221,7 @@ begun-free : (s : ℕ) (o : Opening) → freeAt s (ledgerOf o) ≤ 1
 unfolding freeAt opened
 begun-free s o = at-most-one s 1022 (fresh (natOf (o .start)) (natOf (o .until)))
 
-pub after-append : (l : Ledger) (rs qs : List Request) → afterAll l (rs ++ qs) ≡ afterAll (afterAll l rs) qs
+after-append : (l : Ledger) (rs qs : List Request) → afterAll l (rs ++ qs) ≡ afterAll (afterAll l rs) qs
 unfolding afterAll
 after-append l [] qs = refl
 after-append l (r ∷ rs) qs = after-append (requested l r .ledger) rs qs

@@ -1,9 +1,9 @@
 -- The student's three steps, and the answer, proved.
 use mathlib.Core.Path.{_≡_, refl, sym, ap, _∙_}
-use mathlib.Core.Logic.{_≢_, _⊎_, inl, inr}
-use mathlib.Core.Bool.{Bool, true, false, cond, true≢false}
+use mathlib.Core.Logic.{_⊎_, inl, inr}
+use mathlib.Core.Bool.{true≢false}
 use mathlib.Core.List.{List, _∷_}
-use Prim.Native.Nat.{ℕ, _+_, _*_, _≤_, _<_}
+use Prim.Native.Nat.{ℕ, _+_, _≤_, _<_}
 use native.Mathlib.Omega.{arith}
 use native.Mathlib.Decide.{decLt}
 use lib.IntN.{pos, negsuc}
@@ -14,85 +14,20 @@ use Rattle.rules.specs.declared.Node.{Node}
 use Rattle.rules.specs.declared.Ledger.{Ledger}
 use Rattle.rules.specs.declared.Request.{Request}
 use Rattle.rules.specs.declared.Answer.{Answer}
-use Rattle.rules.specs.declared.Answered.{Answered}
 use Rattle.rules.specs.Limits.{maxNodes}
 use Rattle.rules.specs.Listing.{afterAll}
-use Rattle.rules.specs.Moves.{byKind}
 use Rattle.rules.specs.Nodes.{moved, parted, positionOf, middle, leftPart, rightPart}
-use Rattle.rules.specs.Requests.{refused, ranged, split, batchEnd, nodeIn, answered, requested}
-use Rattle.rules.specs.Sheet40.{IsGranted, ClaimGranted, MarkGranted, SplitGranted, Inside, ClaimStands, MarkReadBack, MarkIsFinal, SharedOut, SplitStartsAtMark, SamePlace, ToClaimer, ToStealer, HerAnswer}
-use Rattle.rules.specs.Table.{at, put, grown, stolenIn}
-use Rattle.rules.specs.WellFormed.{wellFormed}
+use Rattle.rules.specs.Requests.{batchEnd, nodeIn, requested}
+use Rattle.rules.specs.Sheet40.{ClaimGranted, MarkGranted, SplitGranted, InBatch, InNode, ClaimStands, MarkReadBack, MarkIsFinal, SharedOut, SplitStartsAtMark, SamePlace, ToClaimer, ToStealer, HerAnswer}
+use Rattle.rules.specs.Table.{at, put, grown}
 use Rattle.rules.proofs.Batches.{sheets-join}
-use Rattle.rules.proofs.Granted.{Asked, Advancing, Marking, Expanding, after as splitAt, Answers, refuses, owns, advances, marks, expands, looks, answers}
+use Rattle.rules.proofs.Granted.{Asked}
 use Rattle.rules.proofs.Moves.{fits}
 use Rattle.rules.proofs.Nodes.{at-same}
 use Rattle.rules.proofs.Onward.{Onward, requested-later, run-later}
-use Rattle.rules.proofs.Record.{WF, rules}
+use Rattle.rules.proofs.Record.{WF}
 use Rattle.rules.proofs.Split.{split-left, split-right}
-
--- ---- what a granted request says, by its kind
-
--- a request that is granted finds the ledger well formed, and so is answered by its own tests
-pub granted-answered : (l : Ledger) (r : Request) → requested l r .answer .code ≡ 0
-    → (wellFormed l ≡ true) × (requested l r ≡ answered l r)
-unfolding requested
-granted-answered l r = go (wellFormed l)
-  where
-    given : Bool → Answered
-    given b = cond b (answered l r) (record { ledger = l; answer = refused 1 })
-
-    go : (b : Bool) → given b .answer .code ≡ 0 → (b ≡ true) × (given b ≡ answered l r)
-    go true e = (refl, refl)
-    go false e = absurd (omega arith)
-
-pub record Claimed (l : Ledger) (r : Request) (a : Answered) : Type 0 where
-  pub asked : Asked (l .teams) (l .used) r
-  pub facts : Advancing (at l (nodeIn r)) r
-  pub ledger : a .ledger ≡ put l (nodeIn r) (moved (at l (nodeIn r)) (pos (batchEnd (at l (nodeIn r)) r)))
-  pub answer : a .answer ≡ ranged (positionOf (at l (nodeIn r))) (batchEnd (at l (nodeIn r)) r)
-
-pub record Marked (l : Ledger) (r : Request) (a : Answered) : Type 0 where
-  pub asked : Asked (l .teams) (l .used) r
-  pub facts : Marking (at l (nodeIn r)) r (l .used + 2 * stolenIn l) (l .room)
-  pub ledger : a .ledger ≡ put l (nodeIn r) (moved (at l (nodeIn r)) (negsuc (positionOf (at l (nodeIn r)))))
-
-pub record Parted (l : Ledger) (r : Request) (a : Answered) : Type 0 where
-  pub asked : Asked (l .teams) (l .used) r
-  pub facts : Expanding (at l (nodeIn r)) (l .used) (l .room)
-  pub ledger : a .ledger
-      ≡ splitAt l (nodeIn r) (parted (at l (nodeIn r)) (l .used + 1)) (leftPart (at l (nodeIn r))) (rightPart (at l (nodeIn r)))
-  pub answer : a .answer ≡ split (l .used + 1) (middle (at l (nodeIn r)))
-
--- what is so of a granted request of a kind
-abbrev GrantedAs : ℕ → Ledger → Request → Answered → Type 0
-GrantedAs kind l r a = byKind kind (Unit {0}) (Claimed l r a) (Marked l r a) (Parted l r a) (Unit {0})
-
-granted-as : {l : Ledger} {r : Request} {a : Answered} → Answers l r a → a .answer .code ≡ 0 → GrantedAs (natOf (r .kind)) l r a
-granted-as (refuses ne) z = absurd (ne z)
-granted-as (owns k q f) z = rw k tt
-granted-as (advances k q f) z = rw k (record { asked = q; facts = f; ledger = refl; answer = refl })
-granted-as (marks k q f) z = rw k (record { asked = q; facts = f; ledger = refl })
-granted-as (expands k q f) z = rw k (record { asked = q; facts = f; ledger = refl; answer = refl })
-granted-as (looks k q) z = rw k tt
-
-module _ (l : Ledger) (r : Request) where
-  is-granted : (kind : ℕ) → IsGranted kind l r → GrantedAs kind l r (requested l r)
-  is-granted kind g =
-      let e = granted-answered l r (g .code-is) .1 in
-      rw (← g .kind-is, e) (granted-as (answers l r) (rw e at (g .code-is)))
-
-  pub is-claimed : ClaimGranted l r → Claimed l r (requested l r)
-  is-claimed g = is-granted 2 g
-
-  pub is-marked : MarkGranted l r → Marked l r (requested l r)
-  is-marked g = is-granted 3 g
-
-  pub is-parted : SplitGranted l r → Parted l r (requested l r)
-  is-parted g = is-granted 4 g
-
-  pub granted-wf : (kind : ℕ) → length (l .nodes) ≡ maxNodes → IsGranted kind l r → WF l
-  granted-wf kind slots g = rules l slots (granted-answered l r (g .code-is) .0)
+use Rattle.rules.proofs.Claims.{Claimed, Parted, is-claimed, is-marked, is-parted, granted-wf}
 
 -- ---- the first step
 
@@ -115,7 +50,7 @@ mark-read-back l r slots g =
 
 -- the node that a granted request names is in use then and later, and only moves onward
 module _ (l : Ledger) (r : Request) (between : List Request) (w : WF l) (asked : Asked (l .teams) (l .used) r) where
-  pub onward-since : Onward (at (requested l r .ledger) (nodeIn r)) (at (afterAll l (r ∷ between)) (nodeIn r))
+  onward-since : Onward (at (requested l r .ledger) (nodeIn r)) (at (afterAll l (r ∷ between)) (nodeIn r))
   unfolding afterAll
   onward-since =
       let a = requested-later l r w in
@@ -168,8 +103,8 @@ module _ (l : Ledger) (r : Request) (later : List Request) (w : WF l) (g : Split
       let h : m ≤ requested l r .ledger .used = rw (is-parted l r g .ledger) (omega (arith, left-is)) in
       run-later (requested l r .ledger) later (requested-later l r w .wf) .each m low h
 
-  pub position-in-half : (s : ℕ) → s ≡ positionOf (at l (nodeIn r))
-      → Inside s (at next left .start) (at next left .until) ⊎ Inside s (at next (left + 1) .start) (at next (left + 1) .until)
+  position-in-half : (s : ℕ) → s ≡ positionOf (at l (nodeIn r))
+      → InNode s (at next left) ⊎ InNode s (at next (left + 1))
   position-in-half s e = go (decLt s (middle x))
     where
       x : Node
@@ -194,7 +129,7 @@ module _ (l : Ledger) (r : Request) (later : List Request) (w : WF l) (g : Split
       unclaimed = omega (arith, w .alone (nodeIn r) (p .asked .node .low) (p .asked .node .high) .two-left (p .facts .mark))
 
       go : Dec (s < middle x)
-          → Inside s (at next left .start) (at next left .until) ⊎ Inside s (at next (left + 1) .start) (at next (left + 1) .until)
+          → InNode s (at next left) ⊎ InNode s (at next (left + 1))
       go (yes h) =
           inl (record {
             low = omega (arith, a .start, o .left-start);
@@ -211,7 +146,7 @@ module _ (l : Ledger) (r : Request) (later : List Request) (w : WF l) (g : Split
 module _ (l : Ledger) (claim steal : Request) (between : List Request) (slots : length (l .nodes) ≡ maxNodes)
     (place : SamePlace claim steal) where
   -- the position has passed the sheet, and never returns
-  pub to-claimer : ClaimGranted l claim → ToClaimer l claim steal between
+  to-claimer : ClaimGranted l claim → ToClaimer l claim steal between
   to-claimer g = record { granted = inside; refused = refused }
     where
       n : ℕ
@@ -232,7 +167,7 @@ module _ (l : Ledger) (claim steal : Request) (between : List Request) (slots : 
           omega
           (arith, h .position-is, c .facts .end, c .facts .amount .low, h .more, w .alone n (c .asked .node .low) (c .asked .node .high) .high)
 
-      inside : Inside (natOf (claim .position)) (requested l claim .answer .from) (requested l claim .answer .to)
+      inside : InBatch (natOf (claim .position)) (requested l claim .answer)
       inside = rw (c .answer) (record { low = omega (arith, c .facts .here .position-is); high = passed })
 
       beyond : natOf (claim .position) < positionOf (at k n)
@@ -249,8 +184,12 @@ module _ (l : Ledger) (claim steal : Request) (between : List Request) (slots : 
           omega (arith, beyond)
 
   -- the mark stands, and the split starts there
-  pub to-stealer : MarkGranted l steal → ToStealer l claim steal between
-  to-stealer g = record { refused = mark-is-final l steal claim between slots (place .node) g; moved = moved-to }
+  to-stealer : MarkGranted l steal → ToStealer l claim steal between
+  to-stealer g =
+      record {
+        refused = mark-is-final l steal claim between slots (place .node) g;
+        moved = λ split later same h. position-in-half k split later later-wf h (natOf (steal .position)) (rw same marked-at);
+      }
     where
       n : ℕ
       n = nodeIn steal
@@ -269,14 +208,6 @@ module _ (l : Ledger) (claim steal : Request) (between : List Request) (slots : 
 
       later-wf : WF k
       later-wf = run-later l (steal ∷ between) w .wf
-
-      moved-to : (split : Request) (later : List Request) → nodeIn split ≡ n → SplitGranted k split
-          → let left = requested k split .answer .left in
-          let next = afterAll k (split ∷ later) in
-          let s = natOf (steal .position) in
-          Inside s (at next left .start) (at next left .until) ⊎ Inside s (at next (left + 1) .start) (at next (left + 1) .until)
-      moved-to split later same h =
-          position-in-half k split later later-wf h (natOf (steal .position)) (rw same marked-at)
 
 pub her-answer : HerAnswer
 her-answer l claim steal between slots place =

@@ -1,5 +1,6 @@
 -- The student's question, whose is sheet 40 if one team claims it while another steals it: her three steps, and the answer, as statements.
--- `proofs/Sheet40.antt` proves each. They hold of every ledger, and so of all that requests reach from an opening.
+-- `proofs/Sheet40.antt` and `proofs/Once.antt` prove them. All but the last hold of every ledger whose table has its slots, and so of all
+-- that requests reach from an opening.
 use mathlib.Core.Path.{_≡_}
 use mathlib.Core.Logic.{_⊎_}
 use mathlib.Core.Bool.{true, false}
@@ -25,6 +26,7 @@ pub record IsGranted (kind : ℕ) (l : Ledger) (r : Request) : Type 0 where
   pub kind-is : natOf (r .kind) ≡ kind
   pub code-is : requested l r .answer .code ≡ 0
 
+-- 2 is advance, 3 mark and 4 expand
 abbrev pub ClaimGranted : Ledger → Request → Type 0
 ClaimGranted = IsGranted 2
 
@@ -38,6 +40,13 @@ SplitGranted = IsGranted 4
 pub record Inside (s a b : ℕ) : Type 0 where
   pub low : a ≤ s
   pub high : s < b
+
+-- in the batch of an answer, and in the range of a node
+abbrev pub InBatch : ℕ → Answer → Type 0
+InBatch s a = Inside s (a .from) (a .to)
+
+abbrev pub InNode : ℕ → Node → Type 0
+InNode s x = Inside s (x .start) (x .until)
 
 -- ---- her first step: a claim is granted only at the position that stands
 
@@ -98,7 +107,7 @@ pub record SamePlace (claim steal : Request) : Type 0 where
 
 -- the claim came first: its batch has the sheet, and the steal is refused
 pub record ToClaimer (l : Ledger) (claim steal : Request) (between : List Request) : Type 0 where
-  pub granted : Inside (natOf (claim .position)) (requested l claim .answer .from) (requested l claim .answer .to)
+  pub granted : InBatch (natOf (claim .position)) (requested l claim .answer)
   pub refused : MarkGranted (afterAll l (claim ∷ between)) steal → ⊥
 
 -- the steal came first: the claim is refused, and once the split is made one of the two new nodes has the sheet
@@ -107,9 +116,8 @@ pub record ToStealer (l : Ledger) (claim steal : Request) (between : List Reques
   pub moved : (split : Request) (later : List Request) → nodeIn split ≡ nodeIn steal
       → SplitGranted (afterAll l (steal ∷ between)) split
       → let left = requested (afterAll l (steal ∷ between)) split .answer .left in
-      let next = afterAll (afterAll l (steal ∷ between)) (split ∷ later) in
-      let s = natOf (steal .position) in
-      Inside s (at next left .start) (at next left .until) ⊎ Inside s (at next (left + 1) .start) (at next (left + 1) .until)
+      let last = afterAll (afterAll l (steal ∷ between)) (split ∷ later) in
+      InNode (natOf (steal .position)) (at last left) ⊎ InNode (natOf (steal .position)) (at last (left + 1))
 
 abbrev pub HerAnswer : Type 0
 HerAnswer =
@@ -121,7 +129,7 @@ HerAnswer =
 -- the claim is granted, in a batch that has the sheet s
 pub record Gives (l : Ledger) (r : Request) (s : ℕ) : Type 0 where
   pub claim : ClaimGranted l r
-  pub inside : Inside s (requested l r .answer .from) (requested l r .answer .to)
+  pub inside : InBatch s (requested l r .answer)
 
 -- two batches of one run, of any nodes and to any teams, have no sheet in common
 abbrev pub NeverGrantedTwice : Type 0

@@ -1,4 +1,4 @@
--- Every sheet exactly once, and how many can be unclaimed, as statements. `proofs/Sheets.antt` proves each.
+-- Every sheet exactly once, and how many can be unclaimed, as statements. `proofs/Sheets.antt` and `proofs/Counting.antt` prove them.
 use mathlib.Core.Path.{_≡_}
 use mathlib.Core.Bool.{true}
 use mathlib.Core.List.{List}
