@@ -34,24 +34,6 @@ use Rattle.rules.specs.Nodes.{positionOf, leftOver, middle}
 use Rattle.rules.specs.Table.{at}
 use Rattle.rules.specs.WellFormed.{upTo, childRule, numbersRule, wellFormed}
 
--- a signed field that was tested
-pub natural-small : (z : ℤ) → mag z < 2 ^ hbits w32 → natOf z ≤ 2147483647
-natural-small (pos n) h = omega arith
-natural-small (negsuc n) h = omega arith
-
-pub position-small : (z : ℤ) → mag z < 2 ^ hbits w32 → position z ≤ 2147483647
-position-small (pos n) h = omega arith
-position-small (negsuc n) h = omega arith
-
--- a signed field as it was read, and then converted
-pub natural-held : (z : ℤ) (k : ℕ) → mag z < 2 ^ hbits w32 → k ≡ natOf (toZ w32 (ofZ w32 z)) → natOf z ≡ k
-natural-held z k h e = sym (e ∙ ap natOf (told z h))
-
--- the middle of a node passes neither its end nor its position
-pub middle-small : (x : Node) (k : ℕ) → positionOf x ≤ k → x .until ≤ k → middle x ≤ k
-unfolding middle
-middle-small x k p u = omega arith
-
 -- an opening within its limits starts within them
 pub start-small : (o : Opening) → opens o ≡ true → natOf (o .start) ≤ 2147483647
 start-small o e = let f = opens-facts o e in omega (arith, f .start .high, f .until .high)
@@ -88,13 +70,6 @@ until-small l slots e n = go (decLe n (l .used)) (decLe 1 n)
 -- the length of a table, of which owning it tells only through a map
 pub length-under : (X Y : Type 0) (f : X → Y) (l : List X) (n : ℕ) → length (map f l) ≡ n → length l ≡ n
 length-under X Y f l n p = sym (length-map l f) ∙ p
-
--- a choice that was made
-pub chosen : {A : Type 0} (b : Bool) (x y z : A) → b ≡ true → z ≡ x → z ≡ cond b x y
-chosen b x y z e h = rw e h
-
-pub passed-by : {A : Type 0} (b : Bool) (x y z : A) → b ≡ false → z ≡ y → z ≡ cond b x y
-passed-by b x y z e h = rw e h
 
 -- one more number passes a test, or does not
 pub upTo-none : (p : ℕ → Bool) → true ≡ upTo p 0

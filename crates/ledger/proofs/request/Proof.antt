@@ -7,7 +7,8 @@ use lib.ListN.{length}
 use Rattle.numbers.proofs.Signed.{told}
 use Rattle.rules.specs.declared.View.{View}
 use Rattle.rules.specs.Requests.{view, answered, requested}
-use Rattle.ledger.proofs.Laws.{chosen, passed-by, length-under, used-small, numbers-first, until-small, pair-small}
+use Rattle.nodes.proofs.Laws.{chosen, passed-by}
+use Rattle.ledger.proofs.Laws.{length-under, used-small, numbers-first, until-small, pair-small}
 use Rattle.ledger.proofs.request.Statement.{statement}
 use Rattle.ledger.proofs.request.Tie as tie
 

@@ -4,7 +4,8 @@ use borrow.Author.Needs.{needs}
 use Rattle.numbers.specs.Fields.{natOf}
 use Rattle.rules.specs.Nodes.{blank, fresh}
 use Rattle.rules.specs.Opening.{opened}
-use Rattle.ledger.proofs.Laws.{natural-held, first-stored, start-small}
+use Rattle.nodes.proofs.Laws.{natural-held}
+use Rattle.ledger.proofs.Laws.{first-stored, start-small}
 use Rattle.ledger.proofs.opens.opened_by.Statement.{statement}
 use Rattle.ledger.proofs.opens.opened_by.Tie as tie
 
