@@ -7,7 +7,10 @@ ghost use Rattle.rules.specs.Nodes.{blank, fresh, owned, moved, parted, positio
 ghost use Rattle.rules.specs.States.{completed, stateOf, stolenOf};
 ghost use Rattle.rules.specs.Count.{restOf};
 ghost use Rattle.rules.specs.Requests.{decided};
-use rules::{Node, Request, View, Outcome};
+use rules::Node;
+use rules::Outcome;
+use rules::Request;
+use rules::View;
 
 mod codes;
 pub mod grants;
