@@ -1,0 +1,4 @@
+pub mod Decimal
+pub mod Over
+pub mod Spare
+pub mod Demands
