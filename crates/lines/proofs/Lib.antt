@@ -1,4 +1,5 @@
 pub mod Decimal
 pub mod Over
 pub mod Spare
+pub mod Fields
 pub mod Demands

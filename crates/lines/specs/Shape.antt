@@ -4,9 +4,9 @@ use mathlib.Core.List.{List, [], _∷_, _++_}
 use lib.IntN.{ℤ}
 use Rattle.lines.specs.Line.{Part, word, number}
 
-abbrev pub numbers : List ℤ → List Part
-numbers [] = []
-numbers (z ∷ zs) = number z ∷ numbers zs
+abbrev pub fields : List ℤ → List Part
+fields [] = []
+fields (z ∷ zs) = number z ∷ fields zs
 
 -- the word inside a line, where there is one
 abbrev pub inside : List ℕ → List Part
@@ -14,4 +14,4 @@ inside [] = []
 inside (b ∷ bs) = word (b ∷ bs) ∷ []
 
 abbrev pub parts : List ℤ → List ℕ → List ℤ → List Part
-parts ns inner ms = numbers ns ++ (inside inner ++ numbers ms)
+parts ns inner ms = fields ns ++ (inside inner ++ fields ms)
