@@ -67,3 +67,7 @@ put-more area s now at i p room more =
     let l : length now ≡ length area = put-length p h in
     let e : at + (i + 1) ≡ at + i + 1 = omega arith in
     rw (e, add-one i, take-suc s i 0 more) (put-then p (put-one now (at + i) (getD s i 0) (omega arith)) h)
+
+-- after a part there is room for k bytes more
+pub room-then : {a b s : List ℕ} {at next : ℕ} (k : ℕ) → Put a at s next b → at + (length s + k) ≤ length a → next + k ≤ length b
+room-then k p h = let l = put-length p (omega arith) in omega (arith, p .place)

@@ -6,8 +6,8 @@ ghost use lib.ListN.{length};
 ghost use Rattle.numbers.specs.Fields.{natOf};
 ghost use Rattle.lines.specs.Decimal.{decimal};
 ghost use Rattle.lines.specs.Line.{space, openLine, batchLine, splitLine, leftLine, refusedLine, spaced, whole, anyNegative};
-ghost use Rattle.lines.specs.Shape.{fields, inside, parts};
-ghost use Rattle.lines.specs.Area.{Put};
+ghost use Rattle.lines.specs.Shape.{fields, inside, parts, Small};
+ghost use Rattle.lines.specs.Area.{over, Put};
 ghost use Rattle.lines.specs.Written.{answerTo, areaAfter, answer, after};
 
 // What a call answers: 0 and the line's length in bytes, or the code of a refusal and 0.
@@ -138,4 +138,90 @@ fn any_negative(numbers: &[i32]) -> bool
         i += 1;
     }
     any
+}
+
+fn line_length(word: &[u8], numbers: &[i32], inner: &[u8], others: &[i32]) -> usize
+    requires { ⌜ Small (now word) (now numbers) (now inner) (now others) ⌝ }
+    ensures { λ r. ⌜ r ≡ length (whole (now (word .entry)) (parts (now (numbers .entry)) (now (inner .entry)) (now (others .entry)))) ⌝ }
+{
+    word.len() + fields_width(numbers) + inside_width(inner) + fields_width(others) + 1
+}
+
+fn put_line(area: &mut [u8], word: &[u8], numbers: &[i32], inner: &[u8], others: &[i32])
+    requires { ⌜ length (whole (now word) (parts (now numbers) (now inner) (now others))) ≤ length (now area) ⌝ }
+    ensures { λ _. ⌜ now (area .exit) ≡ over (now (area .entry)) 0 (whole (now (word .entry)) (parts (now (numbers .entry)) (now (inner .entry)) (now (others .entry)))) ⌝ }
+{
+    let a = put(area, 0, word);
+    let b = put_fields(area, a, numbers);
+    let c = put_inside(area, b, inner);
+    let d = put_fields(area, c, others);
+    put_byte(area, d, b'\n');
+}
+
+// A line of any kind, whole or not at all: a word, numbers, perhaps a word inside, and numbers after that.
+fn write_line(
+    area: &mut [u8],
+    word: &[u8],
+    numbers: &[i32],
+    inner: &[u8],
+    others: &[i32],
+) -> Written
+    requires { ⌜ Small (now word) (now numbers) (now inner) (now others) ⌝ }
+    ensures { λ r. ⌜ r ≡ answerTo (now (word .entry)) (parts (now (numbers .entry)) (now (inner .entry)) (now (others .entry))) (length (now (area .entry))) ⌝ }
+    ensures { λ _. ⌜ now (area .exit) ≡ areaAfter (now (word .entry)) (parts (now (numbers .entry)) (now (inner .entry)) (now (others .entry))) (now (area .entry)) ⌝ }
+{
+    if any_negative(numbers) | any_negative(others) {
+        return Written { code: 25, length: 0 };
+    }
+    let length = line_length(word, numbers, inner, others);
+    if area.len() < length {
+        return Written { code: 28, length: 0 };
+    }
+    put_line(area, word, numbers, inner, others);
+    Written {
+        code: 0,
+        length: length,
+    }
+}
+
+pub fn open_line(
+    area: &mut [u8],
+    start: i32,
+    until: i32,
+    teams: i32,
+    cap: i32,
+    nodes: i32,
+) -> Written
+    ensures { λ r. ⌜ r ≡ answer (openLine start until teams cap nodes) (length (now (area .entry))) ⌝ }
+    ensures { λ _. ⌜ now (area .exit) ≡ after (openLine start until teams cap nodes) (now (area .entry)) ⌝ }
+{
+    write_line(area, b"open", &[start, until, teams, cap, nodes], b"", &[])
+}
+
+pub fn batch_line(area: &mut [u8], team: i32, node: i32, from: i32, to: i32) -> Written
+    ensures { λ r. ⌜ r ≡ answer (batchLine team node from to) (length (now (area .entry))) ⌝ }
+    ensures { λ _. ⌜ now (area .exit) ≡ after (batchLine team node from to) (now (area .entry)) ⌝ }
+{
+    write_line(area, b"batch", &[team, node, from, to], b"", &[])
+}
+
+pub fn split_line(area: &mut [u8], node: i32, left: i32, middle: i32) -> Written
+    ensures { λ r. ⌜ r ≡ answer (splitLine node left middle) (length (now (area .entry))) ⌝ }
+    ensures { λ _. ⌜ now (area .exit) ≡ after (splitLine node left middle) (now (area .entry)) ⌝ }
+{
+    write_line(area, b"split", &[node, left, middle], b"", &[])
+}
+
+pub fn left_line(area: &mut [u8], count: i32, stopped: i32) -> Written
+    ensures { λ r. ⌜ r ≡ answer (leftLine count stopped) (length (now (area .entry))) ⌝ }
+    ensures { λ _. ⌜ now (area .exit) ≡ after (leftLine count stopped) (now (area .entry)) ⌝ }
+{
+    write_line(area, b"left", &[count], b"stopped", &[stopped])
+}
+
+pub fn refused_line(area: &mut [u8], code: i32, line: i32) -> Written
+    ensures { λ r. ⌜ r ≡ answer (refusedLine code line) (length (now (area .entry))) ⌝ }
+    ensures { λ _. ⌜ now (area .exit) ≡ after (refusedLine code line) (now (area .entry)) ⌝ }
+{
+    write_line(area, b"refused", &[code, line], b"", &[])
 }
