@@ -58,8 +58,8 @@ module _ (ns : List ℤ) (i : ℕ) (more : i < length ns) where
 pub width-front : (ns : List ℤ) (i : ℕ) → length (spaced (fields (take i ns))) ≤ length (spaced (fields ns))
 width-front ns i =
     let e : length (spaced (fields ns)) ≡ length (spaced (fields (take i ns))) + length (spaced (fields (drop i ns))) =
-      ap (λ (l : List ℤ). length (spaced (fields l))) (sym (take-append-drop i ns))
-      ∙ rw (fields-append, spaced-append, length-append) in
+    ap (λ (l : List ℤ). length (spaced (fields l))) (sym (take-append-drop i ns))
+    ∙ rw (fields-append, spaced-append, length-append) in
     omega arith
 
 -- a number more is put after the first i, for which there is room

@@ -28,12 +28,12 @@ unfolding over
 over-over area s t at h =
     let n : length (take at area ++ s) ≡ at + length s = front-length area s at (omega arith) in
     let front : take (at + length s) ((take at area ++ s) ++ drop (at + length s) area) ≡ take at area ++ s =
-      take-at (take at area ++ s) (drop (at + length s) area) (at + length s) n in
+    take-at (take at area ++ s) (drop (at + length s) area) (at + length s) n in
     let back : drop (at + length s + length t) ((take at area ++ s) ++ drop (at + length s) area) ≡ drop (at + length (s ++ t)) area =
-      subst
-      (λ (k : ℕ). drop (k + length t) ((take at area ++ s) ++ drop (at + length s) area) ≡ drop (at + length (s ++ t)) area)
-      n
-      (drop-append-add (take at area ++ s) (drop (at + length s) area) (length t) ∙ simp (drop-drop, length-append, add-assoc)) in
+    subst
+    (λ (k : ℕ). drop (k + length t) ((take at area ++ s) ++ drop (at + length s) area) ≡ drop (at + length (s ++ t)) area)
+    n
+    (drop-append-add (take at area ++ s) (drop (at + length s) area) (length t) ∙ simp (drop-drop, length-append, add-assoc)) in
     rw (front, back, append-assoc (take at area) s t)
 
 over-byte : (area : List ℕ) (at b : ℕ) → at < length area → set area at b ≡ over area at (b ∷ [])
@@ -53,9 +53,9 @@ put-length {area} {later} {s} {at} p h = ap length (p .bytes) ∙ over-length ar
 -- a part put after another
 pub put-then : {a b c s t : List ℕ} {at m n : ℕ} → Put a at s m b → Put b m t n c → at + length s ≤ length a → Put a at (s ++ t) n c
 put-then {a} {b} {c} {s} {t} {at} p q h =
-    record
-    { place = q .place ∙ rw (p .place, length-append) (add-assoc at (length s) (length t))
-    ; bytes = q .bytes ∙ rw (p .place, p .bytes) (over-over a s t at h)
+    record {
+      place = q .place ∙ rw (p .place, length-append) (add-assoc at (length s) (length t));
+      bytes = q .bytes ∙ rw (p .place, p .bytes) (over-over a s t at h);
     }
 
 -- one byte more of s is copied

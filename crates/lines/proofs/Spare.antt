@@ -35,14 +35,14 @@ half-more {n} {spare} {last} {rest} h big =
     let one : 1 ≤ last = half-place h big in
     let back : last - 1 + 1 ≡ last = omega arith in
     let within : last < length spare = omega arith in
-    record
-    { room = omega arith
-    ; high = rw back (div-lt-iff-lt-mul (lit< tt) .1 (rw (add-one, pow-suc) at (h .high)))
-    ; size = length-set spare last _ ∙ h .size
-    ; digits =
-      rw
-      (back, drop-set spare last (digit (rest % 10)) within, ← append-snoc (decimal (rest / 10)) (digit (rest % 10)) (drop (last + 1) spare), ← decimal-more rest big)
-      (h .digits)
+    record {
+      room = omega arith;
+      high = rw back (div-lt-iff-lt-mul (lit< tt) .1 (rw (add-one, pow-suc) at (h .high)));
+      size = length-set spare last _ ∙ h .size;
+      digits =
+          rw
+          (back, drop-set spare last (digit (rest % 10)) within, ← append-snoc (decimal (rest / 10)) (digit (rest % 10)) (drop (last + 1) spare), ← decimal-more rest big)
+          (h .digits);
     }
 
 -- the whole number stands in the spare area, from `first` to the end

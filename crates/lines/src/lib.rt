@@ -171,11 +171,17 @@ fn write_line(
     ensures { λ _. ⌜ now (area .exit) ≡ areaAfter (now (word .entry)) (parts (now (numbers .entry)) (now (inner .entry)) (now (others .entry))) (now (area .entry)) ⌝ }
 {
     if any_negative(numbers) | any_negative(others) {
-        return Written { code: 25, length: 0 };
+        return Written {
+            code: 25,
+            length: 0,
+        };
     }
     let length = line_length(word, numbers, inner, others);
     if area.len() < length {
-        return Written { code: 28, length: 0 };
+        return Written {
+            code: 28,
+            length: 0,
+        };
     }
     put_line(area, word, numbers, inner, others);
     Written {

@@ -39,9 +39,11 @@ loop-less c = omega arith
 loop-again : tie.Need-loop-again Inv-loop μ-loop
 loop-again c =
     let a = c .before .before .before .args in
-    let l = c .before .before .loop in
-    (omega arith, length-set (l .area) _ _ ∙ l .inv .1,
-    put-more (a .area .now) (a .bytes .now) (l .area) (a .at) (l .i) (l .inv .2) (c .before .before .before .pre) (c .before .loop-test .taken))
+    let l = c .before .before .loop in (
+      omega arith,
+      length-set (l .area) _ _ ∙ l .inv .1,
+      put-more (a .area .now) (a .bytes .now) (l .area) (a .at) (l .i) (l .inv .2) (c .before .before .before .pre) (c .before .loop-test .taken),
+    )
 
 add-result : tie.Need-add-result Inv-loop μ-loop
 add-result c = omega arith
