@@ -1,5 +1,5 @@
 -- Laws of decimals: each follows by the digits, from the two equations `decimal-last` and `decimal-more`.
-use mathlib.Core.Path.{_≡_, refl, sym, ap, _∙_}
+use mathlib.Core.Path.{_≡_, refl, ap, _∙_}
 use mathlib.Core.Bool.{Bool, true, false}
 use mathlib.Core.List.{List, [], _∷_, _++_}
 use mathlib.Core.Logic.{_⊎_, inl, inr, ⊎-elim}
@@ -9,15 +9,15 @@ use native.Mathlib.Omega.{arith}
 use borrow.Author.Tests.{lt-ltb, le-ltb, ltb-true, ltb-false}
 use lib.Dec.{lit<, ltb}
 use lib.ListN.{length, length-append}
-use Rattle.lines.specs.Decimal.{digit, spell, digits, decimal}
+use Rattle.lines.specs.Decimal.{digit, oneDigit, spell, digits, decimal}
 
 same-spelt : (b : Bool) (n : ℕ) (f g : ℕ → List ℕ) → (b ≡ false → f (n / 10) ≡ g (n / 10)) → spell b n f ≡ spell b n g
 unfolding spell
 same-spelt true n f g h = refl
-same-spelt false n f g h = ap (λ (ds : List ℕ). ds ++ (digit (n % 10) ∷ [])) (h refl)
+same-spelt false n f g h = rw (h refl)
 
-below : (n k : ℕ) → ltb n 10 ≡ false → n < suc k → n / 10 < k
-below n k e h = let big = ltb-false n 10 e in omega arith
+below : (n k : ℕ) → oneDigit n ≡ false → n < suc k → n / 10 < k
+below n k e h = let big = ltb-false n _ e in omega arith
 
 -- how many steps are allowed does not matter, where they are more than the number
 enough : (k m n : ℕ) → n < k → n < m → digits k n ≡ digits m n
@@ -25,7 +25,12 @@ unfolding digits
 enough zero m n h g = absurd (omega arith)
 enough (suc k) zero n h g = absurd (omega arith)
 enough (suc k) (suc m) n h g =
-    same-spelt (ltb n 10) n (λ i. digits k i) (λ i. digits m i) (λ e. enough k m (n / 10) (below n k e h) (below n m e g))
+    same-spelt
+    (oneDigit n)
+    n
+    (λ i. digits k i)
+    (λ i. digits m i)
+    (λ e. enough k m (n / 10) (below n k e h) (below n m e g))
 
 pub decimal-last : (n : ℕ) → n < 10 → decimal n ≡ digit n ∷ []
 unfolding decimal digits spell

@@ -2,19 +2,15 @@
 use mathlib.Core.Path.{_≡_, refl}
 use mathlib.Core.Bool.{Bool, true, false, _&&_, false≢true}
 use mathlib.Core.List.{List, [], _∷_, _++_}
-use Prim.Native.Nat.{ℕ, zero, suc, _+_, _*_, _-_, _/_, _%_, _^_, _≤_, _<_}
+use Prim.Native.Nat.{ℕ, _+_, _*_, _-_, _/_, _%_, _<_}
 use native.Mathlib.Nat.{div-add-mod'}
 use native.Mathlib.Omega.{arith}
 use borrow.Author.Tests.{le-leb}
-use lib.Dec.{lit<}
-use lib.IntN.{ℤ}
-use lib.ListN.{length, getD, length-append, List·getD-append}
+use lib.ListN.{getD, length-append, List·getD-append}
 use Rattle.numbers.specs.Fields.{natOf}
-use Rattle.numbers.proofs.Laws.{within-true}
 use Rattle.lines.specs.Decimal.{digit, spell, digits, decimal, readAfter, readDecimal}
-use Rattle.lines.specs.Line.{Line, openLine, batchLine, splitLine, leftLine, refusedLine, Part, word, number, bytesOf, wordOf, partsOf, spaced, whole, text, space, lineEnd}
+use Rattle.lines.specs.Line.{openLine, batchLine, splitLine, leftLine, refusedLine, Part, word, number, bytesOf, spaced, whole, space, lineEnd}
 use Rattle.lines.specs.Plain.{isDigit, isPlain, all}
-use Rattle.lines.specs.Longest.{limits, Kept, longest}
 use Rattle.lines.specs.Demands.{NoLeadingZero, DigitsAlone, ReadsBack, PlainLines, AtMost40, Reaches40}
 use Rattle.lines.proofs.Decimal.{decimal-last, decimal-more, by-digits, decimal-some, decimal-width}
 

@@ -7,7 +7,10 @@ use lib.Dec.{ltb}
 abbrev pub digit : ℕ → ℕ
 digit d = 48 + d
 
--- a number below 10 is its digit; any other is n / 10, as `high` spells it, and its last digit
+abbrev pub oneDigit : ℕ → Bool
+oneDigit n = ltb n 10
+
+-- a number of one digit is that digit; any other is n / 10, as `high` spells it, and its last digit
 unfoldable pub spell : Bool → ℕ → (ℕ → List ℕ) → List ℕ
 spell true n high = digit n ∷ []
 spell false n high = high (n / 10) ++ (digit (n % 10) ∷ [])
@@ -15,7 +18,7 @@ spell false n high = high (n / 10) ++ (digit (n % 10) ∷ [])
 -- the digits of n, where k is more than n
 unfoldable pub digits : ℕ → ℕ → List ℕ
 digits zero n = []
-digits (suc k) n = spell (ltb n 10) n (λ m. digits k m)
+digits (suc k) n = spell (oneDigit n) n (λ m. digits k m)
 
 unfoldable pub decimal : ℕ → List ℕ
 decimal n = digits (suc n) n

@@ -9,25 +9,24 @@ use Rattle.rules.specs.Tests.{_when_, first}
 use Rattle.lines.specs.declared.Written.{Written}
 use Rattle.lines.specs.Line.{Line, Part, wordOf, partsOf, whole, anyNegative}
 
--- 25: a number to write is negative, first; 28: the area is shorter than the line, second
+-- 25, a number to write is negative, is tested first; 28, the area is shorter than the line, second
 unfoldable pub refusal : List ℕ → List Part → ℕ → ℕ
 refusal w ps room = first ((25 when anyNegative ps) ∷ (28 when ltb room (length (whole w ps))) ∷ []) 0
 
--- the answer with a code, for a line of n bytes
-abbrev pub answerWith : ℕ → ℕ → Written
-answerWith code n = record { code = code; length = cond (eqb code 0) n 0 }
+abbrev pub refused : ℕ → Written
+refused code = record { code = code; length = 0 }
 
--- the area after an answer with a code, for a line of bytes s
-abbrev pub areaWith : ℕ → List ℕ → List ℕ → List ℕ
-areaWith code s area = cond (eqb code 0) (s ++ drop (length s) area) area
+abbrev pub granted : ℕ → Written
+granted n = record { code = 0; length = n }
 
+-- the answer for an area of `room` bytes
 unfoldable pub answerTo : List ℕ → List Part → ℕ → Written
-answerTo w ps room = answerWith (refusal w ps room) (length (whole w ps))
+answerTo w ps room = cond (eqb (refusal w ps room) 0) (granted (length (whole w ps))) (refused (refusal w ps room))
 
+-- the area afterwards: the line and the bytes that stood after it, or all as it was
 unfoldable pub areaAfter : List ℕ → List Part → List ℕ → List ℕ
-areaAfter w ps area = areaWith (refusal w ps (length area)) (whole w ps) area
+areaAfter w ps area = cond (eqb (refusal w ps (length area)) 0) (whole w ps ++ drop (length (whole w ps)) area) area
 
--- for an area of `room` bytes
 abbrev pub answer : Line → ℕ → Written
 answer l room = answerTo (wordOf l) (partsOf l) room
 

@@ -8,7 +8,7 @@ ghost use Rattle.lines.specs.Decimal.{decimal};
 ghost use Rattle.lines.specs.Line.{space, openLine, batchLine, splitLine, leftLine, refusedLine, spaced, whole, anyNegative};
 ghost use Rattle.lines.specs.Shape.{fields, inside, parts, Small};
 ghost use Rattle.lines.specs.Area.{over, Put};
-ghost use Rattle.lines.specs.Written.{answerTo, areaAfter, answer, after};
+ghost use Rattle.lines.specs.Written.{refused, answerTo, areaAfter, answer, after};
 
 // What a call answers: 0 and the line's length in bytes, or the code of a refusal and 0.
 pub struct Written {
@@ -20,10 +20,10 @@ pub struct Written {
 fn width(n: u64) -> usize
     ensures { λ r. ⌜ (r ≡ length (decimal n)) × (r ≤ 20) ⌝ }
 {
-    let mut rest = n;
+    let mut high = n;
     let mut count: usize = 1;
-    while 10 <= rest {
-        rest /= 10;
+    while 10 <= high {
+        high /= 10;
         count += 1;
     }
     count
@@ -158,6 +158,15 @@ fn put_line(area: &mut [u8], word: &[u8], numbers: &[i32], inner: &[u8], others:
     put_byte(area, d, b'\n');
 }
 
+fn refuse(code: u32) -> Written
+    ensures { λ r. ⌜ r ≡ refused code ⌝ }
+{
+    Written {
+        code: code,
+        length: 0,
+    }
+}
+
 // A line of any kind, whole or not at all: a word, numbers, perhaps a word inside, and numbers after that.
 fn write_line(
     area: &mut [u8],
@@ -171,17 +180,11 @@ fn write_line(
     ensures { λ _. ⌜ now (area .exit) ≡ areaAfter (now (word .entry)) (parts (now (numbers .entry)) (now (inner .entry)) (now (others .entry))) (now (area .entry)) ⌝ }
 {
     if any_negative(numbers) | any_negative(others) {
-        return Written {
-            code: 25,
-            length: 0,
-        };
+        return refuse(25);
     }
     let length = line_length(word, numbers, inner, others);
     if area.len() < length {
-        return Written {
-            code: 28,
-            length: 0,
-        };
+        return refuse(28);
     }
     put_line(area, word, numbers, inner, others);
     Written {

@@ -1,9 +1,8 @@
 -- A number is built backwards in the spare area, and copied. The loop's invariant: `Half` of it is built.
-use mathlib.Core.Path.{refl, ap, _∙_}
+use mathlib.Core.Path.{refl}
 use mathlib.Core.List.{append-nil}
 use native.Mathlib.Omega.{arith}
 use borrow.Author.Needs.{needs}
-use lib.ListN.{length-set}
 use Rattle.lines.proofs.Spare.{Half, half-place, half-more, half-built}
 use Rattle.lines.proofs.put_number.Statement.{statement}
 use Rattle.lines.proofs.put_number.Tie as tie

@@ -9,10 +9,10 @@ use Rattle.lines.proofs.width.Statement.{statement}
 use Rattle.lines.proofs.width.Tie as tie
 
 abbrev Inv-loop : tie.InvT-loop
-Inv-loop n rest₀ count₀ rest count = count + length (decimal rest) ≡ 1 + length (decimal n)
+Inv-loop n high₀ count₀ high count = count + length (decimal high) ≡ 1 + length (decimal n)
 
 abbrev μ-loop : tie.MeasureT-loop
-μ-loop n rest₀ count₀ rest count = rest
+μ-loop n high₀ count₀ high count = high
 
 loop-holds : tie.Need-loop-holds Inv-loop μ-loop
 loop-holds c = refl
@@ -20,17 +20,17 @@ loop-holds c = refl
 add-count : tie.Need-add-count Inv-loop μ-loop
 add-count c =
     omega
-    (arith, decimal-width 19 (c .before .before .args .n) (omega arith), decimal-some (c .before .loop .rest))
+    (arith, decimal-width 19 (c .before .before .args .n) (omega arith), decimal-some (c .before .loop .high))
 
 loop-less : tie.Need-loop-less Inv-loop μ-loop
 loop-less c = omega arith
 
 loop-again : tie.Need-loop-again Inv-loop μ-loop
-loop-again c = omega (arith, decimal-shorter (c .before .loop .rest) (c .loop-test .taken))
+loop-again c = omega (arith, decimal-shorter (c .before .loop .high) (c .loop-test .taken))
 
 returns : tie.Need-returns Inv-loop μ-loop
 returns c =
-    let one = decimal-one (c .before .loop .rest) (c .loop-test .left) in
+    let one = decimal-one (c .before .loop .high) (c .loop-test .left) in
     let most = decimal-width 19 (c .before .before .args .n) (omega arith) in
     (omega arith, omega arith)
 
