@@ -14,7 +14,7 @@ use Rattle.lines.specs.Line.{Part, whole, anyNegative}
 use Rattle.lines.specs.Shape.{fields, inside, parts}
 use Rattle.lines.specs.Area.{over}
 use Rattle.lines.specs.Written.{refusal, refused, granted, answerTo, areaAfter}
-use Rattle.lines.proofs.Fields.{negative-append}
+use Rattle.lines.proofs.Parts.{negative-append}
 
 negative-parts : (ns : List ℤ) (v : List ℕ) (ms : List ℤ) → anyNegative (parts ns v ms) ≡ (anyNegative (fields ns) || anyNegative (fields ms))
 unfolding anyNegative

@@ -46,7 +46,7 @@ decimal-more n h =
     digits-more n n h
     ∙ ap (λ (ds : List ℕ). ds ++ (digit (n % 10) ∷ [])) (enough n (suc (n / 10)) (n / 10) (omega arith) (omega arith))
 
-pub one-digit : (n : ℕ) → (n < 10) ⊎ (10 ≤ n)
+one-digit : (n : ℕ) → (n < 10) ⊎ (10 ≤ n)
 one-digit n = by (ltb n 10) refl where
   by : (b : Bool) → ltb n 10 ≡ b → (n < 10) ⊎ (10 ≤ n)
   by true e = inl (ltb-true n 10 e)

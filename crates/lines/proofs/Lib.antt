@@ -1,7 +1,7 @@
 pub mod Decimal
-pub mod Over
+pub mod Area
 pub mod Spare
-pub mod Fields
+pub mod Parts
 pub mod Whole
 pub mod Answer
 pub mod Demands

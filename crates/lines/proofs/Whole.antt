@@ -8,11 +8,11 @@ use lib.ListN.{length, length-append}
 use Rattle.lines.specs.Line.{lineEnd, spaced, whole}
 use Rattle.lines.specs.Shape.{fields, inside, parts}
 use Rattle.lines.specs.Area.{over, Put}
-use Rattle.lines.proofs.Over.{put-then, room-then}
-use Rattle.lines.proofs.Fields.{spaced-append}
+use Rattle.lines.proofs.Area.{put-then, room-then}
+use Rattle.lines.proofs.Parts.{spaced-append}
 
 module _ (w : List ℕ) (ns : List ℤ) (v : List ℕ) (ms : List ℤ) where
-  -- what is to come after the first word, after the numbers, and after the word inside
+  -- how many bytes are to come: from the numbers after the word inside on, from that word on, and from the first numbers on
   abbrev pub from-others : ℕ
   from-others = length (spaced (fields ms)) + 1
 

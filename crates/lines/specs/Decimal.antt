@@ -15,7 +15,7 @@ unfoldable pub spell : Bool → ℕ → (ℕ → List ℕ) → List ℕ
 spell true n high = digit n ∷ []
 spell false n high = high (n / 10) ++ (digit (n % 10) ∷ [])
 
--- the digits of n, where k is more than n
+-- The digits of n, where k is more than n. The rest is handed on as a function, so that a number computes in as many steps as it has digits.
 unfoldable pub digits : ℕ → ℕ → List ℕ
 digits zero n = []
 digits (suc k) n = spell (oneDigit n) n (λ m. digits k m)

@@ -29,7 +29,7 @@ fn width(n: u64) -> usize
     count
 }
 
-// Each put writes into the area from `at` on, and answers the next place.
+// Each put writes into the area from `at` on, and answers the place after what it wrote.
 fn put(area: &mut [u8], at: usize, bytes: &[u8]) -> usize
     requires { ⌜ at + length (now bytes) ≤ length (now area) ⌝ }
     ensures { λ r. ⌜ Put (now (area .entry)) at (now (bytes .entry)) r (now (area .exit)) ⌝ }
@@ -50,7 +50,7 @@ fn put_byte(area: &mut [u8], at: usize, byte: u8) -> usize
     at + 1
 }
 
-// The digits come last first, so they are built backwards in a spare area and then copied.
+// The last digit is found first, so the number is built backwards in a spare area, and then copied. A u64 has at most 20 digits.
 fn put_number(area: &mut [u8], at: usize, n: u64) -> usize
     requires { ⌜ at + length (decimal n) ≤ length (now area) ⌝ }
     ensures { λ r. ⌜ Put (now (area .entry)) at (decimal n) r (now (area .exit)) ⌝ }
@@ -151,11 +151,11 @@ fn put_line(area: &mut [u8], word: &[u8], numbers: &[i32], inner: &[u8], others:
     requires { ⌜ length (whole (now word) (parts (now numbers) (now inner) (now others))) ≤ length (now area) ⌝ }
     ensures { λ _. ⌜ now (area .exit) ≡ over (now (area .entry)) 0 (whole (now (word .entry)) (parts (now (numbers .entry)) (now (inner .entry)) (now (others .entry)))) ⌝ }
 {
-    let a = put(area, 0, word);
-    let b = put_fields(area, a, numbers);
-    let c = put_inside(area, b, inner);
-    let d = put_fields(area, c, others);
-    put_byte(area, d, b'\n');
+    let next = put(area, 0, word);
+    let next = put_fields(area, next, numbers);
+    let next = put_inside(area, next, inner);
+    let next = put_fields(area, next, others);
+    put_byte(area, next, b'\n');
 }
 
 fn refuse(code: u32) -> Written
@@ -167,7 +167,8 @@ fn refuse(code: u32) -> Written
     }
 }
 
-// A line of any kind, whole or not at all: a word, numbers, perhaps a word inside, and numbers after that.
+// A line of any kind: a word, numbers, perhaps a word inside, and numbers after that. It is measured before its first byte is put,
+// so that a refusal leaves the area as it was.
 fn write_line(
     area: &mut [u8],
     word: &[u8],

@@ -8,7 +8,7 @@ use lib.Seq.{take-length}
 use Rattle.numbers.proofs.Signed.{told}
 use Rattle.lines.specs.Line.{anyNegative}
 use Rattle.lines.specs.Shape.{fields}
-use Rattle.lines.proofs.Fields.{negative-more}
+use Rattle.lines.proofs.Parts.{negative-more}
 use Rattle.lines.proofs.any_negative.Statement.{statement}
 use Rattle.lines.proofs.any_negative.Tie as tie
 

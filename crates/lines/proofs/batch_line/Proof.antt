@@ -1,4 +1,4 @@
--- The batch line.
+-- The line writer at the word batch and its four numbers.
 use borrow.Author.Needs.{needs}
 use Rattle.numbers.proofs.Signed.{held}
 use Rattle.lines.proofs.batch_line.Statement.{statement}

@@ -8,7 +8,7 @@ use lib.Seq.{take-length}
 use Rattle.numbers.proofs.Signed.{told}
 use Rattle.lines.specs.Line.{spaced}
 use Rattle.lines.specs.Shape.{fields}
-use Rattle.lines.proofs.Fields.{width-more}
+use Rattle.lines.proofs.Parts.{width-more}
 use Rattle.lines.proofs.fields_width.Statement.{statement}
 use Rattle.lines.proofs.fields_width.Tie as tie
 

@@ -3,7 +3,7 @@ use mathlib.Core.Path.{sym, ap}
 use lib.ListN.{length}
 use native.Mathlib.Omega.{arith}
 use borrow.Author.Needs.{needs}
-use Rattle.lines.proofs.Fields.{inside-none, inside-some}
+use Rattle.lines.proofs.Parts.{inside-none, inside-some}
 use Rattle.lines.proofs.inside_width.Statement.{statement}
 use Rattle.lines.proofs.inside_width.Tie as tie
 

@@ -1,4 +1,4 @@
--- The left line.
+-- The line writer at the words left and stopped, with a number after each.
 use borrow.Author.Needs.{needs}
 use Rattle.numbers.proofs.Signed.{held}
 use Rattle.lines.proofs.left_line.Statement.{statement}

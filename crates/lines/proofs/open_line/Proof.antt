@@ -1,4 +1,4 @@
--- The open line.
+-- The line writer at the word open and the header's numbers.
 use borrow.Author.Needs.{needs}
 use Rattle.numbers.proofs.Signed.{held}
 use Rattle.lines.proofs.open_line.Statement.{statement}

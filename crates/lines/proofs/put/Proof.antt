@@ -7,7 +7,7 @@ use borrow.Author.Needs.{needs}
 use lib.ListN.{length, take, length-set}
 use lib.Seq.{take-length}
 use Rattle.lines.specs.Area.{Put}
-use Rattle.lines.proofs.Over.{put-nothing, put-more}
+use Rattle.lines.proofs.Area.{put-nothing, put-more}
 use Rattle.lines.proofs.put.Statement.{statement}
 use Rattle.lines.proofs.put.Tie as tie
 

@@ -1,6 +1,6 @@
 -- One byte is stored.
 use borrow.Author.Needs.{needs}
-use Rattle.lines.proofs.Over.{put-one}
+use Rattle.lines.proofs.Area.{put-one}
 use Rattle.lines.proofs.put_byte.Statement.{statement}
 use Rattle.lines.proofs.put_byte.Tie as tie
 

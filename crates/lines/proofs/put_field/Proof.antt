@@ -2,7 +2,7 @@
 use native.Mathlib.Omega.{arith}
 use borrow.Author.Needs.{needs}
 use Rattle.numbers.proofs.Signed.{held}
-use Rattle.lines.proofs.Over.{put-then, put-length}
+use Rattle.lines.proofs.Area.{put-then, put-length}
 use Rattle.lines.proofs.put_field.Statement.{statement}
 use Rattle.lines.proofs.put_field.Tie as tie
 

@@ -9,8 +9,8 @@ use Rattle.numbers.proofs.Signed.{told}
 use Rattle.lines.specs.Area.{Put}
 use Rattle.lines.specs.Line.{spaced}
 use Rattle.lines.specs.Shape.{fields}
-use Rattle.lines.proofs.Over.{put-nothing, put-length}
-use Rattle.lines.proofs.Fields.{field-room, field-more}
+use Rattle.lines.proofs.Area.{put-nothing, put-length}
+use Rattle.lines.proofs.Parts.{field-room, field-more}
 use Rattle.lines.proofs.put_fields.Statement.{statement}
 use Rattle.lines.proofs.put_fields.Tie as tie
 

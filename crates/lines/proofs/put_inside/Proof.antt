@@ -3,8 +3,8 @@ use mathlib.Core.Path.{ap}
 use lib.ListN.{length}
 use native.Mathlib.Omega.{arith}
 use borrow.Author.Needs.{needs}
-use Rattle.lines.proofs.Over.{put-nothing, put-then, put-length}
-use Rattle.lines.proofs.Fields.{inside-none, inside-some}
+use Rattle.lines.proofs.Area.{put-nothing, put-then, put-length}
+use Rattle.lines.proofs.Parts.{inside-none, inside-some}
 use Rattle.lines.proofs.put_inside.Statement.{statement}
 use Rattle.lines.proofs.put_inside.Tie as tie
 

@@ -1,4 +1,4 @@
--- The refused line.
+-- The line writer at the word refused and its two numbers.
 use borrow.Author.Needs.{needs}
 use Rattle.numbers.proofs.Signed.{held}
 use Rattle.lines.proofs.refused_line.Statement.{statement}

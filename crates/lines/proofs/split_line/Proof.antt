@@ -1,4 +1,4 @@
--- The split line.
+-- The line writer at the word split and its three numbers.
 use borrow.Author.Needs.{needs}
 use Rattle.numbers.proofs.Signed.{held}
 use Rattle.lines.proofs.split_line.Statement.{statement}

@@ -14,7 +14,7 @@ use Rattle.lines.specs.Decimal.{decimal}
 use Rattle.lines.specs.Line.{Part, number, belowZero, bytesOf, space, spaced, anyNegative}
 use Rattle.lines.specs.Shape.{fields, inside}
 use Rattle.lines.specs.Area.{Put}
-use Rattle.lines.proofs.Over.{put-then}
+use Rattle.lines.proofs.Area.{put-then}
 
 pub spaced-append : (ps qs : List Part) → spaced (ps ++ qs) ≡ spaced ps ++ spaced qs
 unfolding spaced
