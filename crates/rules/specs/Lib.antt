@@ -10,3 +10,5 @@ pub mod Tests
 pub mod Refusals
 pub mod Requests
 pub mod Count
+pub mod Examples
+pub mod Demands

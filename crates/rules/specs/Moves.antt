@@ -1,7 +1,7 @@
 -- "Moves are a fixed table of five states by five requests: own takes 1 to 2; advance takes 2 to 2 or 3; mark takes 2 to 4;
 -- expand takes 4 to 5; the other twenty-one entries are 'no move'."
 use Prim.Native.Nat.{ℕ, _+_, _^_}
-use mathlib.Core.Bool.{Bool, cond, _&&_}
+use mathlib.Core.Bool.{Bool, false, cond, _||_}
 use mathlib.Core.List.{List, [], _∷_}
 use lib.Dec.{eqb}
 use Rattle.rules.specs.States.{AVAILABLE, OWNED, COMPLETED, STOLEN, EXPANDED}
@@ -25,6 +25,11 @@ leads state kind =
     (onlyFrom OWNED state (STOLEN ∷ []))
     (onlyFrom STOLEN state (EXPANDED ∷ []))
     []
+
+-- the state is one of those
+unfoldable pub isIn : ℕ → List ℕ → Bool
+isIn s [] = false
+isIn s (t ∷ ts) = eqb s t || isIn s ts
 
 -- a set of states as a number: 2 to the power of each
 unfoldable pub asNumber : List ℕ → ℕ

@@ -1,0 +1,2 @@
+-- What the ledger's code needs beside the rules.
+pub mod Pairs

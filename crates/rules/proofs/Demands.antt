@@ -1,0 +1,59 @@
+-- The demands on the ledger, proved.
+use mathlib.Core.Path.{_≡_, refl}
+use mathlib.Core.Bool.{Bool, true, false, cond}
+use native.Mathlib.Omega.{arith}
+use Rattle.numbers.specs.Fields.{natOf}
+use Rattle.rules.specs.declared.Ledger.{Ledger}
+use Rattle.rules.specs.declared.Opened.{Opened}
+use Rattle.rules.specs.declared.Request.{Request}
+use Rattle.rules.specs.Demands.{OpeningWellFormed, RequestsKeepWellFormed, RefusalsChangeNothing, RoomForEverySplit, Moves, RequestsFollowMoves}
+use Rattle.rules.specs.Limits.{opens}
+use Rattle.rules.specs.Moves.{leads}
+use Rattle.rules.specs.Opening.{opening, ledgerOf, closed}
+use Rattle.rules.specs.Requests.{nodeIn, answered, requested}
+use Rattle.rules.specs.States.{stateOf}
+use Rattle.rules.specs.Table.{at}
+use Rattle.rules.specs.WellFormed.{wellFormed}
+use Rattle.rules.proofs.Expand.{room-left}
+use Rattle.rules.proofs.Granted.{answers}
+use Rattle.rules.proofs.Keeps.{wf-answered, requested-wf, refused-keeps}
+use Rattle.rules.proofs.Moves.{moves, others, none}
+use Rattle.rules.proofs.Opens.{opened-wf}
+use Rattle.rules.proofs.Record.{WF, rules, rules-back}
+use Rattle.rules.proofs.States.{is-stolen}
+
+pub opening-well-formed : OpeningWellFormed
+unfolding opening
+opening-well-formed o = go (opens o) refl
+  where
+    given : Bool → Opened
+    given b = cond b (record { code = 0; ledger = ledgerOf o }) (record { code = 20; ledger = closed })
+
+    go : (b : Bool) → opens o ≡ b → given b .code ≡ 0 → wellFormed (given b .ledger) ≡ true
+    go true e z = rules-back (ledgerOf o) (opened-wf o e)
+    go false e z = absurd (omega arith)
+
+pub requests-keep-well-formed : RequestsKeepWellFormed
+requests-keep-well-formed l r slots e =
+    let w = rules l slots e in
+    rw (requested-wf l r w) (rules-back (answered l r .ledger) (wf-answered l r w))
+
+pub refusals-change-nothing : RefusalsChangeNothing
+refusals-change-nothing = refused-keeps
+
+pub room-for-every-split : RoomForEverySplit
+room-for-every-split l n slots e low high s = room-left l (rules l slots e) n low high (is-stolen (at l n) s)
+
+follow : (l : Ledger) (r : Request) → WF l → Moves l r (requested l r .ledger)
+follow l r w =
+    let step = moves w (answers l r) in
+    rw
+    (requested-wf l r w)
+    (record {
+      others = others w (answers l r);
+      moves = step;
+      none = none l (answered l r .ledger) _ (leads (stateOf (at l (nodeIn r))) (natOf (r .kind))) step;
+    })
+
+pub requests-follow-moves : RequestsFollowMoves
+requests-follow-moves l r slots e = follow l r (rules l slots e)

@@ -1,0 +1,268 @@
+-- What is so when a request is granted, kind by kind, with what it then answers and does.
+use mathlib.Core.Path.{_≡_, refl, sym, ap, _∙_}
+use mathlib.Core.Logic.{_≢_}
+use mathlib.Core.Bool.{true, false, not, true≢false}
+use Prim.Native.Nat.{ℕ, _+_, _*_, _≤_, min}
+use native.Mathlib.Omega.{arith}
+use native.Mathlib.Decide.{ℕ-discrete}
+use lib.IntN.{ℤ, pos, negsuc}
+use borrow.Author.Tests.{eqb-true, eqb-false, ne-eqb, not-false}
+use Rattle.numbers.specs.Progress.{negative, position, mark as markOf}
+use Rattle.numbers.specs.Fields.{isNat, within, natOf, sameNumber}
+use Rattle.numbers.proofs.Laws.{Within, within-true, isNat-true, isNat-made, same-true}
+use Rattle.rules.specs.declared.Node.{Node}
+use Rattle.rules.specs.declared.Ledger.{Ledger}
+use Rattle.rules.specs.declared.Request.{Request}
+use Rattle.rules.specs.declared.Answered.{Answered}
+use Rattle.rules.specs.declared.View.{View}
+use Rattle.rules.specs.declared.Change.the-variants.{Keep}
+use Rattle.rules.specs.Limits.{maxAmount}
+use Rattle.rules.specs.Nodes.{owned, moved, parted, marked, unowned, childless, positionOf, leftOver, middle, leftPart, rightPart}
+use Rattle.rules.specs.States.{completed}
+use Rattle.rules.specs.Table.{at, put, grown, stolenIn}
+use Rattle.rules.specs.Refusals.{allTests, ownTests, advanceTests, markTests, expandTests, ownCode, advanceCode, markCode, expandCode, kindCode, refusal}
+use Rattle.rules.specs.Requests.{refused, ranged, split, seen, outcome, owning, batchEnd, advancing, marking, expanding, looking, granted, decided, view, changed, nodeIn, answered}
+use Rattle.rules.proofs.Facts.{ltb-f}
+use Rattle.rules.proofs.Tests.{passed, Kind, own, advance, mark, expand, look, kind-of}
+
+-- ---- the facts of each kind
+
+-- a request of any kind that passes the tests of all
+pub record Asked (teams used : ℕ) (r : Request) : Type 0 where
+  pub kind : Within (r .kind) 1 5
+  pub team : Within (r .team) 1 teams
+  pub node : Within (r .node) 1 used
+
+pub record Owning (x : Node) : Type 0 where
+  pub nobody : x .owner ≡ 0
+  pub going : completed x ≡ false
+
+-- the position that is claimed or marked is the one that stands
+pub record Here (x : Node) (r : Request) : Type 0 where
+  pub plain : marked x ≡ false
+  pub going : completed x ≡ false
+  pub same : r .position ≡ x .progress
+  pub progress-is : x .progress ≡ pos (positionOf x)
+  pub position-is : natOf (r .position) ≡ positionOf x
+  pub mark-is : markOf (r .position) ≡ negsuc (positionOf x)
+  pub more : positionOf x ≢ x .until
+
+pub record Advancing (x : Node) (r : Request) : Type 0 where
+  pub amount : Within (r .amount) 1 maxAmount
+  pub mine : x .owner ≡ natOf (r .team)
+  pub here : Here x r
+  pub end : batchEnd x r ≡ min (positionOf x + natOf (r .amount)) (x .until)
+
+pub record Marking (x : Node) (r : Request) (load room : ℕ) : Type 0 where
+  pub somebody : x .owner ≢ 0
+  pub other : x .owner ≢ natOf (r .team)
+  pub here : Here x r
+  pub two : leftOver x ≢ 1
+  pub fits : load + 2 ≤ room
+
+pub record Expanding (x : Node) (used room : ℕ) : Type 0 where
+  pub mark : marked x ≡ true
+  pub leaf : x .left ≡ 0
+  pub fits : used + 2 ≤ room
+
+-- ---- the answer, and the ledger after it
+
+abbrev pub after : Ledger → ℕ → Node → Node → Node → Ledger
+after l n x a b = grown (put (put (put l n x) (l .used + 1) a) (l .used + 1 + 1) b)
+
+pub data Answers (l : Ledger) (r : Request) : Answered → Type 0 where
+  refuses : refusal (view l (nodeIn r)) r ≢ 0
+      → Answers l r (record { ledger = l; answer = refused (refusal (view l (nodeIn r)) r) })
+  owns : natOf (r .kind) ≡ 1 → Asked (l .teams) (l .used) r → Owning (at l (nodeIn r))
+      → Answers l r (record {
+        ledger = put l (nodeIn r) (owned (at l (nodeIn r)) (natOf (r .team)));
+        answer = ranged (at l (nodeIn r) .start) (at l (nodeIn r) .until);
+      })
+  advances : natOf (r .kind) ≡ 2 → Asked (l .teams) (l .used) r → Advancing (at l (nodeIn r)) r
+      → Answers l r (record {
+        ledger = put l (nodeIn r) (moved (at l (nodeIn r)) (pos (batchEnd (at l (nodeIn r)) r)));
+        answer = ranged (positionOf (at l (nodeIn r))) (batchEnd (at l (nodeIn r)) r);
+      })
+  marks : natOf (r .kind) ≡ 3 → Asked (l .teams) (l .used) r
+      → Marking (at l (nodeIn r)) r (l .used + 2 * stolenIn l) (l .room)
+      → Answers l r (record {
+        ledger = put l (nodeIn r) (moved (at l (nodeIn r)) (negsuc (positionOf (at l (nodeIn r)))));
+        answer = ranged (positionOf (at l (nodeIn r))) (at l (nodeIn r) .until);
+      })
+  expands : natOf (r .kind) ≡ 4 → Asked (l .teams) (l .used) r → Expanding (at l (nodeIn r)) (l .used) (l .room)
+      → Answers l r (record {
+        ledger =
+            after l (nodeIn r) (parted (at l (nodeIn r)) (l .used + 1)) (leftPart (at l (nodeIn r))) (rightPart (at l (nodeIn r)));
+        answer = split (l .used + 1) (middle (at l (nodeIn r)));
+      })
+  looks : natOf (r .kind) ≡ 5 → Asked (l .teams) (l .used) r
+      → Answers l r (record { ledger = l; answer = seen (at l (nodeIn r)) })
+
+-- ---- reading the lists of tests back
+
+unmarked : (z p : ℤ) → negative z ≡ false → p ≡ z → (z ≡ pos (position z)) × (natOf p ≡ position z)
+unmarked (pos n) p t e = (refl, rw e)
+unmarked (negsuc n) p t e = absurd (true≢false t)
+
+not-yet : (z : ℤ) (u : ℕ) → negative z ≡ false → isNat z u ≡ false → position z ≢ u
+not-yet (pos n) u t e = eqb-false n u e
+not-yet (negsuc n) u t e = absurd (true≢false t)
+
+here-is : (x : Node) (r : Request) → marked x ≡ false → completed x ≡ false
+    → not (sameNumber (r .position) (x .progress)) ≡ false
+    → Here x r
+here-is x r plain going e =
+    let same = same-true (r .position) (x .progress) (not-false (sameNumber (r .position) (x .progress)) e) in
+    let u = unmarked (x .progress) (r .position) plain same in
+    record {
+      plain = plain;
+      going = going;
+      same = same;
+      progress-is = u .0;
+      position-is = u .1;
+      mark-is = ap markOf (same ∙ u .0);
+      more = not-yet (x .progress) (x .until) plain going;
+    }
+
+pub own-facts : (x : Node) → ownCode x ≡ 0 → Owning x
+unfolding ownCode
+own-facts x e =
+    let t = passed (ownTests x) 0 tt e .0 in
+    record { nobody = eqb-true (x .owner) 0 (not-false (unowned x) (t .0)); going = t .1 .0 }
+
+pub advance-facts : (x : Node) (r : Request) → advanceCode x r ≡ 0 → Advancing x r
+unfolding advanceCode batchEnd
+advance-facts x r e =
+    let t = passed (advanceTests x r) 0 tt e .0 in
+    let h = here-is x r (t .1 .1 .0) (t .1 .1 .1 .0) (t .1 .1 .1 .1 .0) in
+    record {
+      amount = within-true (r .amount) 1 maxAmount (not-false (within (r .amount) 1 maxAmount) (t .0));
+      mine = sym (ap natOf (isNat-true (r .team) (x .owner) (not-false (isNat (r .team) (x .owner)) (t .1 .0))));
+      here = h;
+      end = rw (h .position-is);
+    }
+
+pub mark-facts : (v : View) (r : Request) → r .team ≡ pos (natOf (r .team)) → markCode v r ≡ 0
+    → Marking (v .node) r (v .used + 2 * v .stolen) (v .room)
+unfolding markCode
+mark-facts v r team e =
+    let t = passed (markTests v r) 0 tt e .0 in
+    record {
+      somebody = eqb-false (v .node .owner) 0 (t .0);
+      other = λ f. true≢false (sym (rw (team, ← f) (isNat-made (v .node .owner))) ∙ t .1 .0);
+      here = here-is (v .node) r (t .1 .1 .0) (t .1 .1 .1 .0) (t .1 .1 .1 .1 .0);
+      two = eqb-false (leftOver (v .node)) 1 (t .1 .1 .1 .1 .1 .0);
+      fits = omega (arith, simp ltb-f at (t .1 .1 .1 .1 .1 .1 .0));
+    }
+
+pub expand-facts : (v : View) → expandCode v ≡ 0 → Expanding (v .node) (v .used) (v .room)
+unfolding expandCode
+expand-facts v e =
+    let t = passed (expandTests v) 0 tt e .0 in
+    record {
+      mark = not-false (marked (v .node)) (t .0);
+      leaf = eqb-true (v .node .left) 0 (not-false (childless (v .node)) (t .1 .0));
+      fits = omega (arith, simp ltb-f at (t .1 .1 .0));
+    }
+
+pub asked-facts : (v : View) (r : Request) → refusal v r ≡ 0 → Asked (v .teams) (v .used) r × (kindCode v r ≡ 0)
+unfolding refusal
+asked-facts v r e =
+    let p = passed (allTests v r) (kindCode v r) tt e in
+    let t = p .0 in (
+      record {
+        kind = within-true (r .kind) 1 5 (not-false (within (r .kind) 1 5) (t .0));
+        team = within-true (r .team) 1 (v .teams) (not-false (within (r .team) 1 (v .teams)) (t .1 .0));
+        node = within-true (r .node) 1 (v .used) (not-false (within (r .node) 1 (v .used)) (t .1 .1 .0));
+      },
+      p .1,
+    )
+
+-- ---- granted or refused
+
+module _ (l : Ledger) (r : Request) where
+  abbrev n : ℕ
+  n = nodeIn r
+
+  abbrev v : View
+  v = view l n
+
+  abbrev x : Node
+  x = at l n
+
+  -- what the request answers and does where no test holds
+  given : Answered
+  given = record { ledger = changed l n (granted v r .change); answer = granted v r .answer }
+
+  module _ (clear : refusal v r ≡ 0) where
+    asked : Asked (l .teams) (l .used) r
+    unfolding view
+    asked = asked-facts v r clear .0
+
+    code : kindCode v r ≡ 0
+    code = asked-facts v r clear .1
+
+    given-own : natOf (r .kind) ≡ 1 → Answers l r given
+    unfolding given granted changed owning view
+    given-own e = let f = own-facts x (unfold kindCode in (rw e at code)) in rw e (owns e asked f)
+
+    -- a batch from the position that stands
+    advances-from : (p : ℕ) → p ≡ positionOf x → natOf (r .kind) ≡ 2 → Advancing x r
+        → Answers l r (record { ledger = put l n (moved x (pos (batchEnd x r))); answer = ranged p (batchEnd x r) })
+    advances-from p is e f = rw is (advances e asked f)
+
+    given-advance : natOf (r .kind) ≡ 2 → Answers l r given
+    unfolding given granted changed advancing view
+    given-advance e =
+        let f = advance-facts x r (unfold kindCode in (rw e at code)) in
+        rw e (advances-from _ (f .here .position-is) e f)
+
+    -- a progress that is the position's mark
+    marks-as : (p : ℤ) → p ≡ negsuc (positionOf x) → natOf (r .kind) ≡ 3
+        → Marking x r (l .used + 2 * stolenIn l) (l .room)
+        → Answers l r (record { ledger = put l n (moved x p); answer = ranged (positionOf x) (x .until) })
+    marks-as p is e f = rw is (marks e asked f)
+
+    given-mark : natOf (r .kind) ≡ 3 → Answers l r given
+    unfolding given granted changed marking view
+    given-mark e =
+        let f = mark-facts v r (asked .team .is) (unfold kindCode in (rw e at code)) in
+        rw (e, f .here .position-is) (marks-as _ (f .here .mark-is) e f)
+
+    given-expand : natOf (r .kind) ≡ 4 → Answers l r given
+    unfolding given granted changed expanding view
+    given-expand e = let f = expand-facts v (unfold kindCode in (rw e at code)) in rw e (expands e asked f)
+
+    given-look : natOf (r .kind) ≡ 5 → Answers l r given
+    unfolding given granted changed looking view
+    given-look e = rw e (looks e asked)
+
+    given-is : Answers l r given
+    given-is = go (kind-of (natOf (r .kind)) (asked .kind .low) (asked .kind .high))
+      where
+        go : Kind (natOf (r .kind)) → Answers l r given
+        go (own e) = given-own e
+        go (advance e) = given-advance e
+        go (mark e) = given-mark e
+        go (expand e) = given-expand e
+        go (look e) = given-look e
+
+pub decided-granted : (v : View) (r : Request) → refusal v r ≡ 0 → decided v r ≡ granted v r
+unfolding decided
+decided-granted v r e = rw e
+
+pub decided-refused : (v : View) (r : Request) → refusal v r ≢ 0 → decided v r ≡ outcome (refused (refusal v r)) Keep
+unfolding decided
+decided-refused v r ne = rw (ne-eqb (refusal v r) 0 ne)
+
+pub answers : (l : Ledger) (r : Request) → Answers l r (answered l r)
+unfolding answered given
+answers l r = go (ℕ-discrete (refusal v r) 0)
+  where
+    v : View
+    v = view l (nodeIn r)
+
+    go : Dec (refusal v r ≡ 0)
+        → Answers l r (record { ledger = changed l (nodeIn r) (decided v r .change); answer = decided v r .answer })
+    go (yes e) = rw (decided-granted v r e) (given-is l r e)
+    go (no ne) = rw (decided-refused v r ne) (unfold changed in (refuses ne))

@@ -1,0 +1,145 @@
+-- The rule of moves says what requests do to a well-formed ledger.
+use mathlib.Core.Path.{_≡_, refl, ap}
+use mathlib.Core.Logic.{_≢_, _⊎_, inl, inr}
+use mathlib.Core.Bool.{Bool, true, false, false≢true}
+use mathlib.Core.List.{List, []}
+use Prim.Native.Nat.{ℕ, _+_, _*_, _≤_}
+use native.Mathlib.Omega.{arith}
+use lib.IntN.{pos, negsuc}
+use lib.ListN.{length}
+use Rattle.numbers.specs.Progress.{negative}
+use Rattle.numbers.specs.Fields.{natOf}
+use Rattle.rules.specs.declared.Node.{Node}
+use Rattle.rules.specs.declared.Ledger.{Ledger}
+use Rattle.rules.specs.declared.Request.{Request}
+use Rattle.rules.specs.declared.Answered.{Answered}
+use Rattle.rules.specs.Moves.{leads, isIn}
+use Rattle.rules.specs.Nodes.{owned, moved, parted, marked, positionOf, leftPart, rightPart}
+use Rattle.rules.specs.Requests.{batchEnd, nodeIn}
+use Rattle.rules.specs.States.{AVAILABLE, OWNED, COMPLETED, STOLEN, EXPANDED, completed, stateOf}
+use Rattle.rules.specs.Table.{at, put, stolenIn}
+use Rattle.rules.proofs.Granted.{Asked, Owning, Advancing, Marking, Expanding, Answers, refuses, owns, advances, marks, expands, looks}
+use Rattle.rules.proofs.Keeps.{no-children}
+use Rattle.rules.proofs.Nodes.{at-same, at-other}
+use Rattle.rules.proofs.Record.{WF}
+use Rattle.rules.proofs.Split.{split-here, split-other}
+use Rattle.rules.proofs.States.{available-is, owned-is, completed-is, stolen-is, expanded-is}
+
+-- a state after a request of a kind, from the state before
+abbrev pub Leads : Node → ℕ → Node → Type 0
+Leads x kind y = isIn (stateOf y) (leads (stateOf x) kind) ≡ true
+
+-- by the two states, of which the rule speaks
+leads-by : (x y : Node) (kind s t : ℕ) → stateOf x ≡ s → stateOf y ≡ t → isIn t (leads s kind) ≡ true → Leads x kind y
+leads-by x y kind s t e f h = rw (e, f) h
+
+module _ (l : Ledger) (w : WF l) (r : Request) (asked : Asked (l .teams) (l .used) r) where
+  abbrev n : ℕ
+  n = nodeIn r
+
+  abbrev x : Node
+  x = at l n
+
+  own-leads : Owning x → Leads x 1 (owned x (natOf (r .team)))
+  unfolding leads isIn
+  own-leads o =
+      let plain = ap negative (w .alone n (asked .node .low) (asked .node .high) .unowned (o .nobody)) in
+      let y = owned x (natOf (r .team)) in
+      leads-by
+      x
+      y
+      1
+      AVAILABLE
+      OWNED
+      (available-is x (record { going = o .going; plain = plain; nobody = o .nobody }))
+      (owned-is y (record { going = o .going; plain = plain; somebody = omega (arith, asked .team .low) }))
+      refl
+
+  was-owned : marked x ≡ false → completed x ≡ false → x .owner ≢ 0 → stateOf x ≡ OWNED
+  was-owned p g s = owned-is x (record { going = g; plain = p; somebody = s })
+
+  -- on to the end, or not yet
+  advance-leads : Advancing x r → Leads x 2 (moved x (pos (batchEnd x r)))
+  advance-leads a = go (completed y) refl
+    where
+      y : Node
+      y = moved x (pos (batchEnd x r))
+
+      some : x .owner ≢ 0
+      some = omega (arith, a .mine, asked .team .low)
+
+      was : stateOf x ≡ OWNED
+      was = was-owned (a .here .plain) (a .here .going) some
+
+      go : (b : Bool) → completed y ≡ b → Leads x 2 y
+      go true e = unfold leads isIn in (leads-by x y 2 OWNED COMPLETED was (completed-is y e) refl)
+      go false e =
+          unfold leads isIn in
+          (leads-by x y 2 OWNED OWNED was (owned-is y (record { going = e; plain = refl; somebody = some })) refl)
+
+  mark-leads : Marking x r (l .used + 2 * stolenIn l) (l .room) → Leads x 3 (moved x (negsuc (positionOf x)))
+  unfolding leads isIn
+  mark-leads m =
+      let y = moved x (negsuc (positionOf x)) in
+      leads-by
+      x
+      y
+      3
+      OWNED
+      STOLEN
+      (was-owned (m .here .plain) (m .here .going) (m .somebody))
+      (stolen-is y (record { mark = refl; leaf = no-children l w r asked (m .here .plain) }))
+      refl
+
+  expand-leads : Expanding x (l .used) (l .room) → Leads x 4 (parted x (l .used + 1))
+  unfolding leads isIn
+  expand-leads e =
+      let y = parted x (l .used + 1) in
+      leads-by
+      x
+      y
+      4
+      STOLEN
+      EXPANDED
+      (stolen-is x (record { mark = e .mark; leaf = e .leaf }))
+      (expanded-is y (record { mark = e .mark; parent = omega arith }))
+      refl
+
+  fits : nodeIn r ≤ length (l .nodes)
+  fits = omega (arith, asked .node .high, w .used-room, w .room-high, w .slots)
+
+  stored : (y : Node) (k : ℕ) → natOf (r .kind) ≡ k → Leads x k y → Leads x (natOf (r .kind)) (at (put l n y) n)
+  stored y k e h = rw (e, at-same l n y (asked .node .low) fits) h
+
+-- ---- any request
+
+pub moves : {l : Ledger} {r : Request} {a : Answered} → WF l → Answers l r a
+    → (a .ledger ≡ l) ⊎ Leads (at l (nodeIn r)) (natOf (r .kind)) (at (a .ledger) (nodeIn r))
+moves w (refuses h) = inl refl
+moves {l} {r} w (owns k q f) = inr (stored l w r q (owned (at l (nodeIn r)) (natOf (r .team))) 1 k (own-leads l w r q f))
+moves {l} {r} w (advances k q f) =
+    inr (stored l w r q (moved (at l (nodeIn r)) (pos (batchEnd (at l (nodeIn r)) r))) 2 k (advance-leads l w r q f))
+moves {l} {r} w (marks k q f) =
+    inr (stored l w r q (moved (at l (nodeIn r)) (negsuc (positionOf (at l (nodeIn r))))) 3 k (mark-leads l w r q f))
+moves {l} {r} w (expands k q f) =
+    inr
+    (rw
+    (k, split-here l (nodeIn r) _ (leftPart (at l (nodeIn r))) (rightPart (at l (nodeIn r))) (q .node .low) (q .node .high) (omega (arith, f .fits, w .room-high, w .slots)))
+    (expand-leads l w r q f))
+moves w (looks k q) = inl refl
+
+pub others : {l : Ledger} {r : Request} {a : Answered} → WF l → Answers l r a
+    → (m : ℕ) → 1 ≤ m → m ≤ l .used → m ≢ nodeIn r → at (a .ledger) m ≡ at l m
+others w (refuses h) m p u ne = refl
+others {l} {r} w (owns k q f) m p u ne = at-other l (nodeIn r) _ (q .node .low) m p ne
+others {l} {r} w (advances k q f) m p u ne = at-other l (nodeIn r) _ (q .node .low) m p ne
+others {l} {r} w (marks k q f) m p u ne = at-other l (nodeIn r) _ (q .node .low) m p ne
+others {l} {r} w (expands k q f) m p u ne =
+    split-other l (nodeIn r) _ _ _ (q .node .low) (q .node .high) (omega (arith, f .fits, w .room-high, w .slots)) m p ne (omega arith) (omega arith)
+others w (looks k q) m p u ne = refl
+
+-- no state is one of none
+pub none : (l k : Ledger) (s : ℕ) (states : List ℕ) → (k ≡ l) ⊎ (isIn s states ≡ true) → states ≡ [] → k ≡ l
+unfolding isIn
+none l k s states (inl e) z = e
+none l k s states (inr h) z = let f : false ≡ true = rw z at h in absurd (false≢true f)

@@ -1,0 +1,59 @@
+-- The demands on the ledger, as statements. `proofs/Demands.antt` proves each.
+-- A ledger's table has as many slots as the largest room: its type says so, and a definition over lists has to be told.
+use mathlib.Core.Path.{_≡_}
+use mathlib.Core.Logic.{_≢_, _⊎_}
+use mathlib.Core.Bool.{true}
+use mathlib.Core.List.{[]}
+use Prim.Native.Nat.{ℕ, _+_, _≤_}
+use lib.ListN.{length}
+use Rattle.numbers.specs.Fields.{natOf}
+use Rattle.rules.specs.declared.Ledger.{Ledger}
+use Rattle.rules.specs.declared.Opening.{Opening}
+use Rattle.rules.specs.declared.Request.{Request}
+use Rattle.rules.specs.Examples.{examples, AllRight}
+use Rattle.rules.specs.Limits.{maxNodes}
+use Rattle.rules.specs.Moves.{leads, isIn}
+use Rattle.rules.specs.Opening.{opening}
+use Rattle.rules.specs.Requests.{nodeIn, refused, requested}
+use Rattle.rules.specs.States.{STOLEN, stateOf}
+use Rattle.rules.specs.Table.{at}
+use Rattle.rules.specs.WellFormed.{wellFormed}
+
+-- An opening that is not refused makes a well-formed ledger.
+abbrev pub OpeningWellFormed : Type 0
+OpeningWellFormed = (o : Opening) → opening o .code ≡ 0 → wellFormed (opening o .ledger) ≡ true
+
+-- Every request, granted or refused, leaves a well-formed ledger well formed.
+abbrev pub RequestsKeepWellFormed : Type 0
+RequestsKeepWellFormed =
+    (l : Ledger) (r : Request) → length (l .nodes) ≡ maxNodes → wellFormed l ≡ true → wellFormed (requested l r .ledger) ≡ true
+
+-- "A refusal has only its code and changes nothing."
+abbrev pub RefusalsChangeNothing : Type 0
+RefusalsChangeNothing =
+    (l : Ledger) (r : Request) → requested l r .answer .code ≢ 0
+    → requested l r ≡ record { ledger = l; answer = refused (requested l r .answer .code) }
+
+-- A STOLEN node of a well-formed ledger has a pair of slots to take, so a split that was begun can always be made.
+abbrev pub RoomForEverySplit : Type 0
+RoomForEverySplit =
+    (l : Ledger) (n : ℕ) → length (l .nodes) ≡ maxNodes → wellFormed l ≡ true → 1 ≤ n → n ≤ l .used → stateOf (at l n) ≡ STOLEN
+    → l .used + 2 ≤ l .room
+
+-- What the rule of moves says of a request r that makes a ledger l into another.
+pub record Moves (l : Ledger) (r : Request) (next : Ledger) : Type 0 where
+  -- every other node in use stays as it was
+  pub others : (m : ℕ) → 1 ≤ m → m ≤ l .used → m ≢ nodeIn r → at next m ≡ at l m
+  -- its own node moves as the rule has it, or nothing changes
+  pub moves : (next ≡ l) ⊎ (isIn (stateOf (at next (nodeIn r))) (leads (stateOf (at l (nodeIn r))) (natOf (r .kind))) ≡ true)
+  -- and where the rule has no move, nothing changes
+  pub none : leads (stateOf (at l (nodeIn r))) (natOf (r .kind)) ≡ [] → next ≡ l
+
+-- Every request on a well-formed ledger follows the rule of moves.
+abbrev pub RequestsFollowMoves : Type 0
+RequestsFollowMoves =
+    (l : Ledger) (r : Request) → length (l .nodes) ≡ maxNodes → wellFormed l ≡ true → Moves l r (requested l r .ledger)
+
+-- The twelve examples are as the document has them.
+abbrev pub TwelveExamples : Type 0
+TwelveExamples = AllRight examples
