@@ -15,3 +15,9 @@ pub mod Range
 pub mod Moves
 pub mod Examples
 pub mod Demands
+pub mod Batches
+pub mod Tree
+pub mod Onward
+pub mod Whole
+pub mod Sheets
+pub mod Sheet40
