@@ -1,7 +1,7 @@
 -- "The whole text is judged before the first step: 21; then the earliest byte with 22 or 23 (23 at the number's first byte); 24; 20;
 -- the first 26; 27." "LINE is 0 for 21, for 27 and for 24 without any number, the header's line for other 24 and 20, and else the line of
 -- that byte or number."
-use Prim.Native.Nat.{ℕ, suc}
+use Prim.Native.Nat.{ℕ, _+_}
 use mathlib.Core.Bool.{Bool, cond, not, _&&_}
 use mathlib.Core.List.{List, [], _∷_}
 use lib.Dec.{eqb, leb, ltb}
@@ -40,7 +40,7 @@ given holds refusal later = cond holds refusal later
 -- the earliest byte with 22 or 23, where the marks begin on the given line: a number stands at its first byte
 unfoldable pub faultFrom : ℕ → List Mark → Verdict
 faultFrom line [] = granted
-faultFrom line (lineEnd k ∷ ms) = faultFrom (suc line) ms
+faultFrom line (lineEnd k ∷ ms) = faultFrom (line + 1) ms
 faultFrom line (number ds k ∷ ms) = given (tooLarge ds) (ruled 23 line) (faultFrom line ms)
 faultFrom line (wrong k ∷ ms) = ruled 22 line
 
@@ -87,12 +87,12 @@ isTeam teams n = leb 1 n && leb n teams
 -- the line of the first number that is no team's, where the marks begin on the given line; 0 where there is none
 unfoldable pub strangerFrom : ℕ → ℕ → List Mark → ℕ
 strangerFrom teams line [] = 0
-strangerFrom teams line (lineEnd k ∷ ms) = strangerFrom teams (suc line) ms
+strangerFrom teams line (lineEnd k ∷ ms) = strangerFrom teams (line + 1) ms
 strangerFrom teams line (number ds k ∷ ms) = cond (isTeam teams (numberOf ds)) (strangerFrom teams line ms) line
 strangerFrom teams line (wrong k ∷ ms) = strangerFrom teams line ms
 
 abbrev pub strangerLine : List Mark → ℕ
-strangerLine ms = strangerFrom (teamsOf ms) (suc (headLine 1 ms)) (scheduleMarks ms)
+strangerLine ms = strangerFrom (teamsOf ms) (headLine 1 ms + 1) (scheduleMarks ms)
 
 -- 26: "schedule number is not 1..teams"; 27: "schedule area shorter than the schedule"
 unfoldable pub bodyVerdict : ℕ → List Mark → Verdict

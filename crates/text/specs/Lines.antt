@@ -1,5 +1,5 @@
 -- A text's marks by lines: the header's line, its numbers, and what comes after its line end.
-use Prim.Native.Nat.{ℕ, suc}
+use Prim.Native.Nat.{ℕ, _+_}
 use mathlib.Core.List.{List, [], _∷_}
 use Rattle.text.specs.Marks.{Mark, lineEnd, number, wrong}
 use Rattle.text.specs.Digits.{numberOf}
@@ -7,7 +7,7 @@ use Rattle.text.specs.Digits.{numberOf}
 -- the line of the first number, where the marks begin on the given line; 0 where there is none
 unfoldable pub headLine : ℕ → List Mark → ℕ
 headLine line [] = 0
-headLine line (lineEnd k ∷ ms) = headLine (suc line) ms
+headLine line (lineEnd k ∷ ms) = headLine (line + 1) ms
 headLine line (number ds k ∷ ms) = line
 headLine line (wrong k ∷ ms) = headLine line ms
 

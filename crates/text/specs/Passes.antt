@@ -1,12 +1,13 @@
 -- What the passes over a text find, each in terms of its marks.
 use mathlib.Core.Path.{_≡_}
-use Prim.Native.Nat.{ℕ, suc, _+_, _-_, _≤_, _<_}
+use Prim.Native.Nat.{ℕ, _+_, _-_, _≤_, _<_}
 use mathlib.Core.Bool.{Bool, true, false, cond}
 use mathlib.Core.List.{List}
 use lib.Dec.{eqb}
-use lib.ListN.{length, getD, drop}
+use lib.ListN.{length, getD, set, drop}
 use Rattle.text.specs.declared.Head.{Head}
 use Rattle.text.specs.declared.Row.{Row}
+use Rattle.text.specs.declared.Token.{Token}
 use Rattle.text.specs.declared.Tally.{Tally}
 use Rattle.text.specs.declared.Heading.{Heading}
 use Rattle.text.specs.Bytes.{classOf}
@@ -14,7 +15,7 @@ use Rattle.text.specs.Marks.{Mark, marks}
 use Rattle.text.specs.Lines.{headLine, fromHead, lineNumbers, afterLine, leftAfter, numbersOf}
 use Rattle.text.specs.Judgement.{maxBytes, isGranted, openingOf, headerVerdict, scheduleMarks, strangerFrom}
 use Rattle.text.specs.Answers.{opensAs, restPlace}
-use Rattle.text.specs.Tokens.{stops}
+use Rattle.text.specs.Tokens.{isNumber, stops}
 
 -- nothing is said between the place and r, and a mark begins at r
 pub record Skipped (text : List ℕ) (place r : ℕ) : Type 0 where
@@ -26,9 +27,17 @@ pub record Skipped (text : List ℕ) (place r : ℕ) : Type 0 where
 -- the place of the first number, and its line
 pub record FoundHead (text : List ℕ) (r : Head) : Type 0 where
   pub line : r .line ≡ headLine 1 (marks text)
-  pub small : r .line ≤ suc maxBytes
+  pub small : r .line ≤ maxBytes + 1
   pub within : r .place ≤ length text
   pub there : marks (drop (r .place) text) ≡ fromHead (marks text)
+
+-- the row after one token more
+unfoldable pub rowAfter : Row → Token → Row
+rowAfter row t =
+    record {
+      count = cond (isNumber (t .kind)) (row .count + 1) (row .count);
+      five = cond (isNumber (t .kind)) (set (row .five) (row .count) (t .value)) (row .five);
+      end = t .end }
 
 -- the numbers of a line
 pub record FoundRow (text : List ℕ) (from : ℕ) (r : Row) : Type 0 where
@@ -57,7 +66,7 @@ pub record FoundHeading (text : List ℕ) (r : Heading) : Type 0 where
   pub opening : r .opening ≡ opensAs (r .verdict) (marks text)
   pub end : r .end ≡ restPlace text
   pub within : r .end ≤ length text
-  pub small : r .line ≤ suc maxBytes
+  pub small : r .line ≤ maxBytes + 1
   pub left : length text ≤ r .end + maxBytes
   pub line : isGranted (r .verdict) ≡ true → r .line ≡ headLine 1 (marks text)
   pub there : isGranted (r .verdict) ≡ true → marks (drop (r .end) text) ≡ scheduleMarks (marks text)

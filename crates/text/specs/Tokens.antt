@@ -1,5 +1,5 @@
 -- What a scanner finds at a place of the text: its first mark from there on.
-use Prim.Native.Nat.{ℕ, suc, _+_, _-_, _*_}
+use Prim.Native.Nat.{ℕ, _+_, _-_, _*_}
 use mathlib.Core.Bool.{Bool, true, false, cond, not, _&&_, _||_}
 use mathlib.Core.List.{List, [], _∷_}
 use lib.Dec.{eqb, ltb}
@@ -58,18 +58,26 @@ runAt text from =
 abbrev pub readAs : ℕ → ℕ → ℕ
 readAs count value = cond (ltb maxDigits count || ltb maxNumber value) 2147483648 value
 
--- ---- what a pass over the tokens asks of one
-abbrev pub lineAfter : K.Kind → ℕ → ℕ
-lineAfter kind.LineEnd line = suc line
-lineAfter kind.End line = line
-lineAfter kind.Number line = line
-lineAfter kind.Wrong line = line
+-- the kind of the token that a byte of this class makes by itself
+abbrev pub kindOf : Class → K.Kind
+kindOf LineEnd = kind.LineEnd
+kindOf Hash = kind.Wrong
+kindOf Blank = kind.Wrong
+kindOf Digit = kind.Wrong
+kindOf Other = kind.Wrong
 
+-- ---- what a pass over the tokens asks of one
 abbrev pub isNumber : K.Kind → Bool
 isNumber kind.Number = true
 isNumber kind.End = false
 isNumber kind.LineEnd = false
 isNumber kind.Wrong = false
+
+abbrev pub isWrong : K.Kind → Bool
+isWrong kind.Wrong = true
+isWrong kind.End = false
+isWrong kind.LineEnd = false
+isWrong kind.Number = false
 
 abbrev pub isLineEnd : K.Kind → Bool
 isLineEnd kind.LineEnd = true
@@ -77,12 +85,13 @@ isLineEnd kind.End = false
 isLineEnd kind.Number = false
 isLineEnd kind.Wrong = false
 
--- the code that a token is refused by
-abbrev pub faultOf : K.Kind → ℕ → ℕ
-faultOf kind.Number value = cond (ltb maxNumber value) 23 0
-faultOf kind.Wrong value = 22
-faultOf kind.End value = 0
-faultOf kind.LineEnd value = 0
+-- the line after the token
+abbrev pub lineAfter : Token → ℕ → ℕ
+lineAfter t line = cond (isLineEnd (t .kind)) (line + 1) line
+
+-- the code that the token is refused by, or 0
+abbrev pub faultOf : Token → ℕ
+faultOf t = cond (isNumber (t .kind) && ltb maxNumber (t .value)) 23 (cond (isWrong (t .kind)) 22 0)
 
 -- a number that is no team's
 abbrev pub isStranger : Token → ℕ → Bool

@@ -2,13 +2,13 @@
 ghost use mathlib.Core.Path.{_≡_};
 ghost use mathlib.Core.Bool.{not};
 ghost use Prim.Native.Nat.{_≤_, _<_};
-ghost use lib.ListN.{length, set, drop};
+ghost use lib.ListN.{length, drop};
 ghost use Rattle.text.specs.Bytes.{classOf, isDigit};
 ghost use Rattle.text.specs.Marks.{marks, inComment};
 ghost use Rattle.text.specs.Lines.{numbersOf};
 ghost use Rattle.text.specs.Judgement.{maxBytes, ruled, isGranted, given, faultFrom, openingOf};
-ghost use Rattle.text.specs.Tokens.{stops, grown, runAt, readAs, tokenAt, lineAfter, isNumber, isLineEnd, faultOf, isStranger};
-ghost use Rattle.text.specs.Passes.{Skipped, FoundHead, FoundRow, earlierOf, TallyAsked, tallyOf, FoundHeading};
+ghost use Rattle.text.specs.Tokens.{stops, grown, runAt, readAs, kindOf, tokenAt, isNumber, isWrong, isLineEnd, lineAfter, faultOf, isStranger};
+ghost use Rattle.text.specs.Passes.{Skipped, FoundHead, rowAfter, FoundRow, earlierOf, TallyAsked, tallyOf, FoundHeading};
 ghost use Rattle.text.specs.Answers.{noOpening, headerOf, restOf, filled, scheduleOf, areaOf};
 use rules::Opening;
 
@@ -121,7 +121,10 @@ fn is_digit(class: Class) -> bool
 {
     match class {
         Class::Digit => true,
-        _ => false,
+        Class::LineEnd => false,
+        Class::Hash => false,
+        Class::Blank => false,
+        Class::Other => false,
     }
 }
 
@@ -132,7 +135,9 @@ fn in_comment(inside: bool, class: Class) -> bool
     match class {
         Class::LineEnd => false,
         Class::Hash => true,
-        _ => inside,
+        Class::Blank => inside,
+        Class::Digit => inside,
+        Class::Other => inside,
     }
 }
 
@@ -142,8 +147,10 @@ fn is_first(inside: bool, class: Class) -> bool
 {
     match class {
         Class::LineEnd => true,
-        Class::Hash | Class::Blank => false,
-        Class::Digit | Class::Other => !inside,
+        Class::Hash => false,
+        Class::Blank => false,
+        Class::Digit => !inside,
+        Class::Other => !inside,
     }
 }
 
@@ -192,7 +199,6 @@ fn run_at(text: &[u8], from: usize) -> Run
 
 // A run of digits as a number: one that is refused reads as the first that is too large.
 fn read_as(count: usize, value: u64) -> u32
-    requires { ⌜ value ≤ 21474837000 ⌝ }
     ensures { λ r. ⌜ r ≡ readAs count value ⌝ }
 {
     if count > Token::DIGITS {
@@ -201,6 +207,19 @@ fn read_as(count: usize, value: u64) -> u32
         2147483648
     } else {
         value as u32
+    }
+}
+
+// The kind of the token that a byte makes by itself.
+fn kind_of(class: Class) -> Kind
+    ensures { λ r. ⌜ r ≡ kindOf class ⌝ }
+{
+    match class {
+        Class::LineEnd => Kind::LineEnd,
+        Class::Hash => Kind::Wrong,
+        Class::Blank => Kind::Wrong,
+        Class::Digit => Kind::Wrong,
+        Class::Other => Kind::Wrong,
     }
 }
 
@@ -217,48 +236,45 @@ pub fn token_at(text: &[u8], place: usize) -> Token
         };
     }
     let class = class_of(text[at]);
-    match class {
-        Class::Digit => {
-            let run = run_at(text, at);
-            let value = read_as(run.end - at, run.value);
-            Token {
-                kind: Kind::Number,
-                value,
-                end: run.end,
-            }
-        }
-        Class::LineEnd => Token {
-            kind: Kind::LineEnd,
-            value: 0,
-            end: at + 1,
-        },
-        _ => Token {
-            kind: Kind::Wrong,
-            value: 0,
-            end: at + 1,
-        },
+    if is_digit(class) {
+        let run = run_at(text, at);
+        let value = read_as(run.end - at, run.value);
+        return Token {
+            kind: Kind::Number,
+            value,
+            end: run.end,
+        };
+    }
+    let kind = kind_of(class);
+    Token {
+        kind,
+        value: 0,
+        end: at + 1,
     }
 }
 
 // ---- What a pass over the tokens asks of one.
-fn line_after(t: Token, line: u32) -> u32
-    requires { ⌜ line < 4294967295 ⌝ }
-    ensures { λ r. ⌜ r ≡ lineAfter (t .kind) line ⌝ }
-{
-    let kind = t.kind;
-    match kind {
-        Kind::LineEnd => line + 1,
-        _ => line,
-    }
-}
-
 fn is_number(t: Token) -> bool
     ensures { λ r. ⌜ r ≡ isNumber (t .kind) ⌝ }
 {
     let kind = t.kind;
     match kind {
         Kind::Number => true,
-        _ => false,
+        Kind::End => false,
+        Kind::LineEnd => false,
+        Kind::Wrong => false,
+    }
+}
+
+fn is_wrong(t: Token) -> bool
+    ensures { λ r. ⌜ r ≡ isWrong (t .kind) ⌝ }
+{
+    let kind = t.kind;
+    match kind {
+        Kind::Wrong => true,
+        Kind::End => false,
+        Kind::LineEnd => false,
+        Kind::Number => false,
     }
 }
 
@@ -268,20 +284,25 @@ fn ends_line(t: Token) -> bool
     let kind = t.kind;
     match kind {
         Kind::LineEnd => true,
-        _ => false,
+        Kind::End => false,
+        Kind::Number => false,
+        Kind::Wrong => false,
     }
+}
+
+fn line_after(t: Token, line: u32) -> u32
+    requires { ⌜ line < 4294967295 ⌝ }
+    ensures { λ r. ⌜ r ≡ lineAfter t line ⌝ }
+{
+    numbers::given_code(ends_line(t), line + 1, line)
 }
 
 // The code that a token is refused by, or 0.
 fn fault_of(t: Token) -> u32
-    ensures { λ r. ⌜ r ≡ faultOf (t .kind) (t .value) ⌝ }
+    ensures { λ r. ⌜ r ≡ faultOf t ⌝ }
 {
-    let kind = t.kind;
-    match kind {
-        Kind::Number => numbers::given_code(t.value > Token::LARGEST, 23, 0),
-        Kind::Wrong => 22,
-        _ => 0,
-    }
+    let wrong = numbers::given_code(is_wrong(t), 22, 0);
+    numbers::given_code(is_number(t) & (t.value > Token::LARGEST), 23, wrong)
 }
 
 // Whether the token is a number of the schedule that is no team's.
@@ -329,15 +350,29 @@ fn find_head(text: &[u8]) -> Head
     Head { line: 0, place }
 }
 
-// The five, with a number in its place; a sixth has none.
-fn put_number(five: [u32; Header::NUMBERS], at: usize, value: u32) -> [u32; Header::NUMBERS]
-    ensures { λ r. ⌜ r ≡ set five at value ⌝ }
+// The row after one token more: a number takes its place, where it is among the first five.
+fn taken(row: Row, t: Token) -> Row
+    requires { ⌜ row .count < 18446744073709551615 ⌝ }
+    ensures { λ r. ⌜ r ≡ rowAfter row t ⌝ }
 {
-    let mut kept = five;
-    if at < Header::NUMBERS {
-        kept[at] = value;
+    let mut five = row.five;
+    let count = row.count;
+    if is_number(t) {
+        if count < Header::NUMBERS {
+            five[count] = t.value;
+        }
+        Row {
+            count: count + 1,
+            five,
+            end: t.end,
+        }
+    } else {
+        Row {
+            count,
+            five,
+            end: t.end,
+        }
     }
-    kept
 }
 
 // The numbers from a place up to the line's end.
@@ -346,28 +381,20 @@ fn read_row(text: &[u8], from: usize) -> Row
     ensures { λ r. ⌜ FoundRow (now (text .entry)) from r ⌝ }
 {
     let mut place = from;
-    let mut count = 0;
-    let mut five = [0; Header::NUMBERS];
+    let mut row = Row {
+        count: 0,
+        five: [0; Header::NUMBERS],
+        end: from,
+    };
     while place < text.len() {
         let t = token_at(text, place);
-        place = t.end;
+        row = taken(row, t);
         if ends_line(t) {
-            return Row {
-                count,
-                five,
-                end: place,
-            };
+            return row;
         }
-        if is_number(t) {
-            five = put_number(five, count, t.value);
-            count += 1;
-        }
+        place = t.end;
     }
-    Row {
-        count,
-        five,
-        end: place,
-    }
+    row
 }
 
 // The first of two lines that is one: 0 is none.
@@ -431,15 +458,15 @@ fn refused_or(first: Verdict, later: Verdict) -> Verdict
     if first.code == 0 { later } else { first }
 }
 
-fn opening_of(five: [u32; Header::NUMBERS]) -> Opening
-    ensures { λ r. ⌜ r ≡ openingOf five ⌝ }
+fn opening_of(row: Row) -> Opening
+    ensures { λ r. ⌜ r ≡ openingOf (row .five) ⌝ }
 {
     Opening {
-        start: numbers::to_signed(five[0]),
-        until: numbers::to_signed(five[1]),
-        teams: numbers::to_signed(five[2]),
-        cap: numbers::to_signed(five[3]),
-        nodes: numbers::to_signed(five[4]),
+        start: numbers::to_signed(row.five[0]),
+        until: numbers::to_signed(row.five[1]),
+        teams: numbers::to_signed(row.five[2]),
+        cap: numbers::to_signed(row.five[3]),
+        nodes: numbers::to_signed(row.five[4]),
     }
 }
 
@@ -470,8 +497,7 @@ fn judge_header(text: &[u8]) -> Heading
     }
     let head = find_head(text);
     let row = read_row(text, head.place);
-    let five = row.five;
-    let opening = opening_of(five);
+    let opening = opening_of(row);
     let limits = ruled_by(!opening.is_good(), 20, head.line, Verdict { code: 0, line: 0 });
     let numbers = ruled_by(row.count != Header::NUMBERS, 24, head.line, limits);
     let verdict = refused_or(fault(text), numbers);
