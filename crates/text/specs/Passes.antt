@@ -15,7 +15,7 @@ use Rattle.text.specs.Marks.{Mark, marks}
 use Rattle.text.specs.Lines.{headLine, fromHead, lineNumbers, afterLine, leftAfter, numbersOf}
 use Rattle.text.specs.Judgement.{maxBytes, isGranted, openingOf, headerVerdict, scheduleMarks, strangerFrom}
 use Rattle.text.specs.Answers.{opensAs, restPlace}
-use Rattle.text.specs.Tokens.{isNumber, stops}
+use Rattle.text.specs.Tokens.{stops, isNumber, isStranger}
 
 -- nothing is said between the place and r, and a mark begins at r
 pub record Skipped (text : List ℕ) (place r : ℕ) : Type 0 where
@@ -49,6 +49,13 @@ pub record FoundRow (text : List ℕ) (from : ℕ) (r : Row) : Type 0 where
 
 abbrev pub earlierOf : ℕ → ℕ → ℕ
 earlierOf first second = cond (eqb first 0) second first
+
+-- the tally after one token more, which stands on the given line
+unfoldable pub tallyAfter : Tally → Token → ℕ → ℕ → Tally
+tallyAfter tally t line teams =
+    record {
+      stranger = earlierOf (tally .stranger) (cond (isStranger t teams) line 0);
+      count = cond (isNumber (t .kind)) (tally .count + 1) (tally .count) }
 
 -- so few lines are left that their numbers fit
 pub record TallyAsked (text : List ℕ) (from on : ℕ) : Type 0 where

@@ -8,7 +8,7 @@ ghost use Rattle.text.specs.Marks.{marks, inComment};
 ghost use Rattle.text.specs.Lines.{numbersOf};
 ghost use Rattle.text.specs.Judgement.{maxBytes, ruled, isGranted, given, faultFrom, openingOf};
 ghost use Rattle.text.specs.Tokens.{stops, grown, runAt, readAs, kindOf, tokenAt, isNumber, isWrong, isLineEnd, lineAfter, faultOf, isStranger};
-ghost use Rattle.text.specs.Passes.{Skipped, FoundHead, rowAfter, FoundRow, earlierOf, TallyAsked, tallyOf, FoundHeading};
+ghost use Rattle.text.specs.Passes.{Skipped, FoundHead, rowAfter, FoundRow, earlierOf, tallyAfter, TallyAsked, tallyOf, FoundHeading};
 ghost use Rattle.text.specs.Answers.{noOpening, headerOf, restOf, filled, scheduleOf, areaOf};
 use rules::Opening;
 
@@ -404,6 +404,26 @@ fn earlier(first: u32, second: u32) -> u32
     if first == 0 { second } else { first }
 }
 
+// The tally after one token more, which stands on the given line.
+fn tallied(tally: Tally, t: Token, line: u32, teams: u32) -> Tally
+    requires { ⌜ tally .count < 18446744073709551615 ⌝ }
+    ensures { λ r. ⌜ r ≡ tallyAfter tally t line teams ⌝ }
+{
+    let here = numbers::given_code(is_stranger(t, teams), line, 0);
+    let stranger = earlier(tally.stranger, here);
+    if is_number(t) {
+        Tally {
+            stranger,
+            count: tally.count + 1,
+        }
+    } else {
+        Tally {
+            stranger,
+            count: tally.count,
+        }
+    }
+}
+
 // The schedule's numbers from a place on, which stands on the given line.
 fn count_numbers(text: &[u8], from: usize, on: u32, teams: u32) -> Tally
     requires { ⌜ TallyAsked (now text) from on ⌝ }
@@ -411,18 +431,17 @@ fn count_numbers(text: &[u8], from: usize, on: u32, teams: u32) -> Tally
 {
     let mut place = from;
     let mut line = on;
-    let mut stranger = 0;
-    let mut count = 0;
+    let mut tally = Tally {
+        stranger: 0,
+        count: 0,
+    };
     while place < text.len() {
         let t = token_at(text, place);
-        stranger = earlier(stranger, numbers::given_code(is_stranger(t, teams), line, 0));
+        tally = tallied(tally, t, line, teams);
         line = line_after(t, line);
         place = t.end;
-        if is_number(t) {
-            count += 1;
-        }
     }
-    Tally { stranger, count }
+    tally
 }
 
 // The numbers from a place on, into the front of the area.
