@@ -1,15 +1,15 @@
 -- What each pass keeps from one token to the next, over plain variables.
 use mathlib.Core.Path.{_≡_, refl, sym, ap, _∙_}
 use mathlib.Core.Bool.{Bool, true, false, cond, not, _&&_, true≢false, false≢true}
-use mathlib.Core.List.{List, [], _∷_, map}
+use mathlib.Core.List.{List, [], _∷_, _++_, map}
 use Prim.Native.Nat.{ℕ, zero, suc, _+_, _-_, _≤_, _<_}
-use native.Mathlib.Nat.{add-zero}
+use native.Mathlib.Nat.{add-zero, zero-add}
 use native.Mathlib.Numerals.{add-one}
 use native.Mathlib.Omega.{arith}
 use lib.Dec.{eqb, ltb}
 use lib.IntN.{ℤ}
-use lib.ListN.{length, getD, set, drop, length-set}
-use lib.Seq.{sets, set-out}
+use lib.ListN.{length, getD, set, drop, length-set, length-map}
+use lib.Seq.{sets, set-out, sets-eq}
 use Rattle.numbers.specs.Progress.{signed}
 use borrow.Author.Tests.{eq-eqb, ne-eqb, eqb-true, eqb-false}
 use Rattle.text.specs.declared.Token.{Token}
@@ -22,6 +22,7 @@ use Rattle.text.specs.Lines.{headLine, fromHead, lineNumbers, afterLine,
 use Rattle.text.specs.Judgement.{maxBytes, granted, ruled, given, faultFrom, openingOf, isTeam, strangerFrom}
 use Rattle.text.specs.Tokens.{tokenOf, isNumber, isLineEnd, lineAfter, faultOf, isStranger}
 use Rattle.text.specs.Passes.{FoundHead, rowAfter, FoundRow, earlierOf, tallyAfter, tallyOf}
+use Rattle.text.specs.Answers.{filled}
 use Rattle.text.proofs.Scanning.{later, Moves}
 use Rattle.text.proofs.Values.{number-large}
 
@@ -369,3 +370,15 @@ module _ (text : List ℕ) (ms : List Mark) (first area : List ℤ) (place k : �
       let next = rw e at next-numbers in
       let room : k + suc (length (numbersOf (marks (drop (t .end) text)))) ≤ length area = rw next at (f .room) in
       omega (arith, room)
+
+-- a list written over the front of an area
+front : (vs first : List ℤ) → length vs ≤ length first → sets first 0 vs ≡ vs ++ drop (length vs) first
+front vs first h = sets-eq vs first 0 (omega arith) ∙ rw (zero-add (length vs))
+
+pub fill-ends : (text : List ℕ) (ms : List Mark) (first area : List ℤ) (place k : ℕ) → Filling text ms first area place k → length (numbersOf ms) ≤ length first → marks (drop place text) ≡ [] → area ≡ filled (numbersOf ms) first
+unfolding numbersOf
+fill-ends text ms first area place k f h e =
+    let ns = numbersOf ms in
+    let all : area ≡ sets first 0 (map signed ns) = rw e at (f .same) in
+    let size : length (map signed ns) ≡ length ns = length-map ns signed in
+    all ∙ front (map signed ns) first (omega (arith, size, h)) ∙ rw size

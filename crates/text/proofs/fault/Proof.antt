@@ -1,48 +1,59 @@
+-- The first token that is refused gives the verdict; each other is passed with its line.
+use mathlib.Core.Path.{_≡_, refl, sym, _∙_}
+use mathlib.Core.Bool.{true, false}
+use Prim.Native.Nat.{_-_}
+use native.Mathlib.Omega.{arith}
+use lib.ListN.{length}
+use borrow.Author.Needs.{needs}
+use Rattle.text.proofs.Scanning.{moves, at-end}
+use Rattle.text.proofs.Passing.{Faulting, fault-next, fault-here, fault-none}
 use Rattle.text.proofs.fault.Statement.{statement}
 use Rattle.text.proofs.fault.Tie as tie
-use Rattle.text.proofs.fault.Reads as reads
-use Rattle.text.proofs.fault.Lts as lts
-use Rattle.text.proofs.fault_of.Reads as fault-of-reads
-use Rattle.text.proofs.line_after.Reads as line-after-reads
-use Rattle.text.proofs.token_at.Reads as token-at-reads
 
 abbrev Inv-loop : tie.InvT-loop
-Inv-loop text place₀ line₀ place line = ?
+Inv-loop text place₀ line₀ place line = Faulting text place line
 
 abbrev μ-loop : tie.MeasureT-loop
-μ-loop text place₀ line₀ place line = ?
+μ-loop text place₀ line₀ place line = length text - place
 
--- src/lib.rt:318:5
 loop-holds : tie.Need-loop-holds Inv-loop μ-loop
-loop-holds c = ?
+loop-holds c = record { within = omega arith; most = omega arith; same = refl }
 
--- src/lib.rt:319:13
 token-at-requires : tie.Need-token-at-requires Inv-loop μ-loop
-token-at-requires c κs = ?
+token-at-requires c κs = search needs
 
--- src/lib.rt:320:13
 fault-of-requires : tie.Need-fault-of-requires Inv-loop μ-loop
-fault-of-requires c κs = ?
+fault-of-requires c κs = search needs
 
--- src/lib.rt:322:13
 returns : tie.Need-returns Inv-loop μ-loop
-returns c = ?
+returns c =
+    let text = c .before .before .before .before .before .before .args .text .now in
+    let l = c .before .before .before .before .loop in
+    let m = moves text (l .place) (c .before .before .before .loop-test .taken) (c .before .before .token-at .result) (c .before .before .token-at .ensures) in
+    rw (c .before .fault-of .ensures) (fault-here text (l .place) (l .line) _ (l .inv) m (rw (c .before .fault-of .ensures) at (c .if1 .taken)))
 
--- src/lib.rt:324:9
 line-after-requires : tie.Need-line-after-requires Inv-loop μ-loop
-line-after-requires c κs = ?
+line-after-requires c κs = search needs
 
--- src/lib.rt:318:5
 loop-less : tie.Need-loop-less Inv-loop μ-loop
-loop-less c = ?
+loop-less c =
+    let text = c .before .before .before .before .before .before .before .args .text .now in
+    let l = c .before .before .before .before .before .loop in
+    let m = moves text (l .place) (c .before .before .before .before .loop-test .taken) (c .before .before .before .token-at .result) (c .before .before .before .token-at .ensures) in
+    omega (arith, m .further)
 
--- src/lib.rt:318:5
 loop-again : tie.Need-loop-again Inv-loop μ-loop
-loop-again c = ?
+loop-again c =
+    let text = c .before .before .before .before .before .before .before .args .text .now in
+    let l = c .before .before .before .before .before .loop in
+    let m = moves text (l .place) (c .before .before .before .before .loop-test .taken) (c .before .before .before .token-at .result) (c .before .before .before .token-at .ensures) in
+    rw (c .line-after .ensures) (fault-next text (l .place) (l .line) _ (l .inv) m (sym (c .before .before .fault-of .ensures) ∙ c .before .if1 .left))
 
--- src/lib.rt:312:1
 returns-2 : tie.Need-returns-2 Inv-loop μ-loop
-returns-2 c = ?
+returns-2 c =
+    let text = c .before .before .before .args .text .now in
+    let l = c .before .loop in
+    fault-none text (l .place) (l .line) (l .inv) (at-end text (l .place) false (c .loop-test .left))
 
 pub fault-spec : {M : Type 1} → statement M
 fault-spec =
