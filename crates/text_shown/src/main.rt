@@ -63,11 +63,23 @@ fn granted() {
     show(b"no line end after the header", b"0 5 2 4 7");
     show(b"CR and tab", b"0\t5 2\r4 7\r\n1\t2\r\n");
     show(b"a comment glued to a number", b"0 5 2 4 7#7\n1#2\n2 # 1\n");
-    show(b"a comment before the header", b"# 1 2 3\n\n  # x\n0 5 2 4 7 # first\n2 2");
+    show(
+        b"a comment before the header",
+        b"# 1 2 3\n\n  # x\n0 5 2 4 7 # first\n2 2",
+    );
     show(b"CR in a comment", b"0 5 2 4 7 # a\r1\n2");
-    show(b"NUL and bytes over 127 in a comment", b"0 5 2 4 7 #\x00\x80\xff\n1");
-    show(b"leading zeros", b"0000000000 0000000005 002 4 7\n01 0000000002");
-    show(b"the largest number", b"2147483647 2147483647 32 4096 1023\n32");
+    show(
+        b"NUL and bytes over 127 in a comment",
+        b"0 5 2 4 7 #\x00\x80\xff\n1",
+    );
+    show(
+        b"leading zeros",
+        b"0000000000 0000000005 002 4 7\n01 0000000002",
+    );
+    show(
+        b"the largest number",
+        b"2147483647 2147483647 32 4096 1023\n32",
+    );
     show(b"many lines", b"0 5 2 4 7\n\n1\n\n2 1\n\n");
     show(b"all of the area", b"0 5 2 4 7\n1 2 1 2");
 }
@@ -89,7 +101,10 @@ fn refused() {
     show(b"23, eleven digits", b"0 5 2 4 7\n00000000001");
     show(b"23, 2147483648", b"0 2147483648 2 4 7");
     show(b"23, ten nines", b"0 5 2 4 7\n1\n9999999999");
-    show(b"23, thirty digits", b"0 5 2 4 7\n123456789012345678901234567890");
+    show(
+        b"23, thirty digits",
+        b"0 5 2 4 7\n123456789012345678901234567890",
+    );
     show(b"23 before the x", b"0 5 2 4 7\n99999999999x");
     show(b"24, four numbers", b"\n0 5 2 4\n7\n");
     show(b"24, six numbers", b"0 5 2 4 7 1\n");
