@@ -21,3 +21,5 @@ pub mod Onward
 pub mod Whole
 pub mod Sheets
 pub mod Sheet40
+pub mod Once
+pub mod Counting

@@ -8,8 +8,11 @@ use Rattle.numbers.specs.Fields.{natOf}
 use Rattle.rules.specs.declared.Ledger.{Ledger}
 use Rattle.rules.specs.declared.Opening.{Opening}
 use Rattle.rules.specs.declared.Request.{Request}
+use Rattle.rules.specs.Count.{unclaimed, counted}
+use Rattle.rules.specs.Limits.{maxUntil, maxNodes}
 use Rattle.rules.specs.Listing.{sheets, reached, Batch, batches, Lists, ListsOnly}
 use Rattle.rules.specs.Opening.{opening}
+use Rattle.rules.specs.WellFormed.{wellFormed}
 
 -- A node has one listing.
 abbrev pub OneListing : Type 0
@@ -21,3 +24,11 @@ abbrev pub EverySheetOnce : Type 0
 EverySheetOnce =
     (o : Opening) (rs : List Request) → opening o .code ≡ 0
     → ListsOnly (reached o rs) (batches (opening o .ledger) rs) 1 (sheets (natOf (o .start)) (natOf (o .until)))
+
+-- No more is unclaimed than the range has sheets.
+abbrev pub CountAtMost : Type 0
+CountAtMost = (l : Ledger) → length (l .nodes) ≡ maxNodes → wellFormed l ≡ true → unclaimed l ≤ l .until - l .start
+
+-- So a count fits a signed 32-bit number.
+abbrev pub CountFits : Type 0
+CountFits = (l : Ledger) → length (l .nodes) ≡ maxNodes → counted l .count ≤ maxUntil
