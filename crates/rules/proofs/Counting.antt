@@ -19,7 +19,7 @@ use Rattle.rules.specs.Sheets.{CountAtMost, CountFits}
 use Rattle.rules.specs.Table.{at, sumBy}
 use Rattle.rules.specs.WellFormed.{wellFormed}
 use Rattle.rules.proofs.Nodes.{at-next}
-use Rattle.rules.proofs.Range.{Parent, parent-of}
+use Rattle.rules.proofs.Range.{parent-of}
 use Rattle.rules.proofs.Record.{WF, rules}
 use Rattle.rules.proofs.Sums.{sumBy-ge, sumBy-next, sumBy-zero, sumBy-none}
 

@@ -23,3 +23,4 @@ pub mod Sheets
 pub mod Sheet40
 pub mod Once
 pub mod Counting
+pub mod Listed

@@ -1,14 +1,14 @@
 -- No sheet is granted twice: the nodes in which a sheet is unclaimed never become more, a batch that has it takes one away,
 -- and a new ledger has at most one.
-use mathlib.Core.Path.{_≡_, refl, sym, ap, _∙_}
-use mathlib.Core.Bool.{Bool, true, false, cond, _&&_}
+use mathlib.Core.Path.{_≡_, refl, ap}
+use mathlib.Core.Bool.{cond, _&&_}
 use mathlib.Core.List.{List, [], _∷_, _++_}
 use Prim.Native.Nat.{ℕ, zero, suc, _+_, _≤_, _<_}
 use native.Mathlib.Omega.{arith}
 use native.Mathlib.Decide.{ℕ-discrete, decLt, decLe}
 use lib.Dec.{leb, ltb}
 use lib.IntN.{pos, negsuc}
-use lib.ListN.{length, replicate}
+use lib.ListN.{replicate}
 use borrow.Author.Tests.{eq-eqb, ne-eqb, le-leb, lt-leb, lt-ltb, le-ltb}
 use Rattle.numbers.specs.Fields.{natOf}
 use Rattle.rules.specs.declared.Node.{Node}
@@ -17,8 +17,7 @@ use Rattle.rules.specs.declared.Opening.{Opening}
 use Rattle.rules.specs.declared.Request.{Request}
 use Rattle.rules.specs.declared.Answer.{Answer}
 use Rattle.rules.specs.declared.Answered.{Answered}
-use Rattle.rules.specs.Limits.{opens}
-use Rattle.rules.specs.Listing.{afterAll, reached}
+use Rattle.rules.specs.Listing.{afterAll}
 use Rattle.rules.specs.Nodes.{blank, fresh, owned, moved, parted, childless, positionOf, middle, leftPart, rightPart}
 use Rattle.rules.specs.Opening.{opened, ledgerOf}
 use Rattle.rules.specs.Requests.{batchEnd, nodeIn, requested}

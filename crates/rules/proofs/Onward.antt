@@ -1,6 +1,6 @@
 -- What a node in use becomes, whatever is requested: its range stays, its position never falls, and a mark stands for good.
 use mathlib.Core.Path.{_≡_, refl, sym, _∙_}
-use mathlib.Core.Bool.{true, false, true≢false}
+use mathlib.Core.Bool.{true, true≢false}
 use mathlib.Core.List.{List, [], _∷_}
 use Prim.Native.Nat.{ℕ, _+_, _≤_}
 use native.Mathlib.Omega.{arith}
@@ -15,7 +15,7 @@ use Rattle.rules.specs.Listing.{afterAll}
 use Rattle.rules.specs.Nodes.{owned, moved, parted, marked, positionOf, leftPart, rightPart}
 use Rattle.rules.specs.Requests.{batchEnd, nodeIn, requested}
 use Rattle.rules.specs.Table.{at, put, grown}
-use Rattle.rules.proofs.Granted.{Asked, Answers, refuses, owns, advances, marks, expands, looks, answers}
+use Rattle.rules.proofs.Granted.{Answers, refuses, owns, advances, marks, expands, looks, answers}
 use Rattle.rules.proofs.Keeps.{wf-answers, requested-wf}
 use Rattle.rules.proofs.Moves.{fits, others}
 use Rattle.rules.proofs.Nodes.{at-same}

@@ -2,7 +2,7 @@
 use mathlib.Core.Path.{_≡_, refl, sym, ap, _∙_}
 use mathlib.Core.Logic.{_≢_, _⊎_, inl, inr}
 use mathlib.Core.Bool.{Bool, true, false, cond, true≢false}
-use mathlib.Core.List.{List, _∷_, _++_}
+use mathlib.Core.List.{List, _∷_}
 use Prim.Native.Nat.{ℕ, _+_, _*_, _≤_, _<_}
 use native.Mathlib.Omega.{arith}
 use native.Mathlib.Decide.{decLt}
@@ -18,17 +18,16 @@ use Rattle.rules.specs.declared.Answered.{Answered}
 use Rattle.rules.specs.Limits.{maxNodes}
 use Rattle.rules.specs.Listing.{afterAll}
 use Rattle.rules.specs.Moves.{byKind}
-use Rattle.rules.specs.Nodes.{moved, parted, marked, positionOf, middle, leftPart, rightPart}
+use Rattle.rules.specs.Nodes.{moved, parted, positionOf, middle, leftPart, rightPart}
 use Rattle.rules.specs.Requests.{refused, ranged, split, batchEnd, nodeIn, answered, requested}
-use Rattle.rules.specs.Sheet40.{IsGranted, ClaimGranted, MarkGranted, SplitGranted, Inside, AtProgress, ClaimStands, ReadBack, MarkReadBack, MarkIsFinal, SharedOut, SplitStartsAtMark, SamePlace, ToClaimer, ToStealer, HerAnswer}
+use Rattle.rules.specs.Sheet40.{IsGranted, ClaimGranted, MarkGranted, SplitGranted, Inside, ClaimStands, MarkReadBack, MarkIsFinal, SharedOut, SplitStartsAtMark, SamePlace, ToClaimer, ToStealer, HerAnswer}
 use Rattle.rules.specs.Table.{at, put, grown, stolenIn}
 use Rattle.rules.specs.WellFormed.{wellFormed}
 use Rattle.rules.proofs.Batches.{sheets-join}
 use Rattle.rules.proofs.Granted.{Asked, Advancing, Marking, Expanding, after as splitAt, Answers, refuses, owns, advances, marks, expands, looks, answers}
-use Rattle.rules.proofs.Keeps.{requested-wf}
 use Rattle.rules.proofs.Moves.{fits}
 use Rattle.rules.proofs.Nodes.{at-same}
-use Rattle.rules.proofs.Onward.{Later, Onward, requested-later, run-later}
+use Rattle.rules.proofs.Onward.{Onward, requested-later, run-later}
 use Rattle.rules.proofs.Record.{WF, rules}
 use Rattle.rules.proofs.Split.{split-left, split-right}
 

@@ -2,7 +2,6 @@
 use mathlib.Core.Path.{_≡_, refl, _∙_}
 use mathlib.Core.Bool.{Bool, true, false, cond}
 use mathlib.Core.List.{List, [], append-nil}
-use Prim.Native.Nat.{ℕ, _≤_}
 use native.Mathlib.Omega.{arith}
 use Rattle.numbers.specs.Fields.{natOf}
 use Rattle.rules.specs.declared.Ledger.{Ledger}
@@ -10,14 +9,13 @@ use Rattle.rules.specs.declared.Opening.{Opening}
 use Rattle.rules.specs.declared.Opened.{Opened}
 use Rattle.rules.specs.declared.Request.{Request}
 use Rattle.rules.specs.Limits.{opens}
-use Rattle.rules.specs.Listing.{sheets, afterAll, reached, batches, grantedFrom, ListsOnly}
+use Rattle.rules.specs.Listing.{sheets, afterAll, batches, grantedFrom, ListsOnly}
 use Rattle.rules.specs.Opening.{opened, opening, ledgerOf, closed}
 use Rattle.rules.specs.Sheets.{OneListing, EverySheetOnce}
 use Rattle.rules.specs.Table.{at}
 use Rattle.rules.proofs.Batches.{sheets-none}
 use Rattle.rules.proofs.Onward.{run-later}
 use Rattle.rules.proofs.Opens.{opened-wf, opened-root}
-use Rattle.rules.proofs.Record.{WF}
 use Rattle.rules.proofs.Tree.{leaf}
 use Rattle.rules.proofs.Whole.{Whole, run-whole, root-lists, one-listing}
 

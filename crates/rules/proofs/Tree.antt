@@ -1,8 +1,7 @@
 -- The nodes under a node, as an inductive fact. Nothing bounds its depth, and children may have any numbers.
-use mathlib.Core.Path.{_≡_, subst}
+use mathlib.Core.Path.{_≡_}
 use mathlib.Core.Logic.{_⊎_, inl, inr}
 use Prim.Native.Nat.{ℕ, _+_, _≤_, _<_}
-use native.Mathlib.Omega.{arith}
 use Rattle.rules.specs.declared.Ledger.{Ledger}
 use Rattle.rules.specs.Table.{at}
 

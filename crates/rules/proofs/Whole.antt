@@ -1,8 +1,7 @@
 -- What holds of a ledger and of what was granted, after any requests: the nodes form a tree below the root, and from each node
 -- the sheets from its start up to its position were granted. So the root lists the whole range.
-use mathlib.Core.Path.{_≡_, refl, sym, ap, _∙_, subst}
+use mathlib.Core.Path.{_≡_, refl, sym, _∙_, subst}
 use mathlib.Core.Logic.{_≢_, _⊎_, inl, inr}
-use mathlib.Core.Bool.{true, false}
 use mathlib.Core.List.{List, [], _∷_, _++_, append-assoc, append-nil}
 use Prim.Native.Nat.{ℕ, _+_, _≤_, _<_}
 use native.Mathlib.Omega.{arith}
@@ -16,12 +15,11 @@ use Rattle.rules.specs.declared.Request.{Request}
 use Rattle.rules.specs.declared.Answered.{Answered}
 use Rattle.rules.specs.Listing.{sheets, unclaimedOf, afterAll, Batch, batchOf, batches, grantedFrom, Lists, ends, parts, ListsOnly}
 use Rattle.rules.specs.Nodes.{owned, moved, parted, positionOf, middle, leftPart, rightPart}
-use Rattle.rules.specs.Requests.{ranged, batchEnd, nodeIn, answered, requested}
+use Rattle.rules.specs.Requests.{ranged, batchEnd, nodeIn, requested}
 use Rattle.rules.specs.Table.{at, put, grown}
 use Rattle.rules.proofs.Batches.{sheets-join, sheets-none, no-batch, refused-batch, batchIn, one-batch, granted-here, granted-other}
-use Rattle.rules.proofs.Granted.{Asked, Advancing, Expanding, after as splitAt, Answers, refuses, owns, advances, marks, expands, looks, answers}
+use Rattle.rules.proofs.Granted.{Asked, Advancing, after as splitAt, Answers, refuses, owns, advances, marks, expands, looks, answers}
 use Rattle.rules.proofs.Keeps.{no-children, wf-answers, requested-wf}
-use Rattle.rules.proofs.Moves.{fits}
 use Rattle.rules.proofs.Nodes.{at-same, at-other}
 use Rattle.rules.proofs.Record.{WF}
 use Rattle.rules.proofs.Split.{split-here, split-left, split-right, split-other}

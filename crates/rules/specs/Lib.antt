@@ -15,3 +15,4 @@ pub mod Demands
 pub mod Listing
 pub mod Sheets
 pub mod Sheet40
+pub mod Listed
