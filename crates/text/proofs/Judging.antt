@@ -73,16 +73,16 @@ module _ (text : List ℕ) (head : Head) (row : Row) (f : FoundHead text head) (
 -- ---- the schedule
 
 -- a test that is passed
-passed : (b : Bool) (v rest : Verdict) → isGranted v ≡ false → isGranted (given b v rest) ≡ true → (b ≡ false) × (isGranted rest ≡ true)
+pub passed : (b : Bool) (v rest : Verdict) → isGranted v ≡ false → isGranted (given b v rest) ≡ true → (b ≡ false) × (isGranted rest ≡ true)
 passed true v rest n g = absurd (false≢true (sym n ∙ g))
 passed false v rest n g = (refl, g)
 
 -- a judgement that grants goes on to the next
-granted-first : (b : Bool) (v rest : Verdict) → isGranted v ≡ b → isGranted (given (not b) v rest) ≡ true → (b ≡ true) × (isGranted rest ≡ true)
+pub granted-first : (b : Bool) (v rest : Verdict) → isGranted v ≡ b → isGranted (given (not b) v rest) ≡ true → (b ≡ true) × (isGranted rest ≡ true)
 granted-first true v rest e g = (refl, g)
 granted-first false v rest e g = absurd (false≢true (sym e ∙ g))
 
-not-not : (b : Bool) → not b ≡ false → b ≡ true
+pub not-not : (b : Bool) → not b ≡ false → b ≡ true
 not-not true e = refl
 not-not false e = absurd (true≢false e)
 
