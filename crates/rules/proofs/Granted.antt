@@ -1,12 +1,12 @@
 -- What is so when a request is granted, kind by kind, with what it then answers and does.
 use mathlib.Core.Path.{_≡_, refl, sym, ap, _∙_}
 use mathlib.Core.Logic.{_≢_}
-use mathlib.Core.Bool.{Bool, true, false, cond, not, true≢false}
+use mathlib.Core.Bool.{true, false, not, true≢false}
 use Prim.Native.Nat.{ℕ, _+_, _*_, _≤_, min}
 use native.Mathlib.Omega.{arith}
-use lib.Dec.{eqb}
+use native.Mathlib.Decide.{ℕ-discrete}
 use lib.IntN.{ℤ, pos, negsuc}
-use borrow.Author.Tests.{eqb-true, eqb-false, not-false}
+use borrow.Author.Tests.{eqb-true, eqb-false, ne-eqb, not-false}
 use Rattle.numbers.specs.Progress.{negative, position, mark as markOf}
 use Rattle.numbers.specs.Fields.{isNat, within, natOf, sameNumber}
 use Rattle.numbers.proofs.Laws.{Within, within-true, isNat-true, isNat-made, same-true}
@@ -16,7 +16,6 @@ use Rattle.rules.specs.declared.Request.{Request}
 use Rattle.rules.specs.declared.Answered.{Answered}
 use Rattle.rules.specs.declared.View.{View}
 use Rattle.rules.specs.declared.Change.the-variants.{Keep}
-use Rattle.rules.specs.declared.Outcome.{Outcome}
 use Rattle.rules.specs.Limits.{maxAmount}
 use Rattle.rules.specs.Nodes.{owned, moved, parted, marked, unowned, childless, positionOf, leftOver, middle, leftPart, rightPart}
 use Rattle.rules.specs.States.{completed}
@@ -207,11 +206,16 @@ module _ (l : Ledger) (r : Request) where
     unfolding given granted changed owning view
     given-own e = let f = own-facts x (unfold kindCode in (rw e at code)) in rw e (owns e asked f)
 
+    -- a batch from the position that stands
+    advances-from : (p : ℕ) → p ≡ positionOf x → natOf (r .kind) ≡ 2 → Advancing x r
+        → Answers l r (record { ledger = put l n (moved x (pos (batchEnd x r))); answer = ranged p (batchEnd x r) })
+    advances-from p is e f = rw is (advances e asked f)
+
     given-advance : natOf (r .kind) ≡ 2 → Answers l r given
     unfolding given granted changed advancing view
     given-advance e =
         let f = advance-facts x r (unfold kindCode in (rw e at code)) in
-        rw (e, f .here .position-is) (advances e asked f)
+        rw e (advances-from _ (f .here .position-is) e f)
 
     -- a progress that is the position's mark
     marks-as : (p : ℤ) → p ≡ negsuc (positionOf x) → natOf (r .kind) ≡ 3
@@ -243,17 +247,22 @@ module _ (l : Ledger) (r : Request) where
         go (expand e) = given-expand e
         go (look e) = given-look e
 
+pub decided-granted : (v : View) (r : Request) → refusal v r ≡ 0 → decided v r ≡ granted v r
+unfolding decided
+decided-granted v r e = rw e
+
+pub decided-refused : (v : View) (r : Request) → refusal v r ≢ 0 → decided v r ≡ outcome (refused (refusal v r)) Keep
+unfolding decided
+decided-refused v r ne = rw (ne-eqb (refusal v r) 0 ne)
+
 pub answers : (l : Ledger) (r : Request) → Answers l r (answered l r)
-unfolding answered decided given
-answers l r = go (eqb (refusal v r) 0) refl
+unfolding answered given
+answers l r = go (ℕ-discrete (refusal v r) 0)
   where
     v : View
     v = view l (nodeIn r)
 
-    o : Bool → Outcome
-    o b = cond b (granted v r) (outcome (refused (refusal v r)) Keep)
-
-    go : (b : Bool) → eqb (refusal v r) 0 ≡ b
-        → Answers l r (record { ledger = changed l (nodeIn r) (o b .change); answer = o b .answer })
-    go true e = given-is l r (eqb-true (refusal v r) 0 e)
-    go false e = unfold changed in (refuses (eqb-false (refusal v r) 0 e))
+    go : Dec (refusal v r ≡ 0)
+        → Answers l r (record { ledger = changed l (nodeIn r) (decided v r .change); answer = decided v r .answer })
+    go (yes e) = rw (decided-granted v r e) (given-is l r e)
+    go (no ne) = rw (decided-refused v r ne) (unfold changed in (refuses ne))

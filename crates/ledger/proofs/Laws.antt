@@ -1,0 +1,155 @@
+-- What the ledger's code needs of the definitions, over plain variables.
+use mathlib.Core.Path.{_≡_, refl, sym, ap, ap₂, _∙_}
+use mathlib.Core.Bool.{Bool, true, false, cond, _&&_, _||_, and-false, false-and}
+use mathlib.Core.List.{List, map, _∷_}
+use Prim.Native.Nat.{ℕ, zero, suc, _+_, _-_, _/_, _≤_, _<_, _^_}
+use native.Mathlib.Numerals.{add-one}
+use native.Mathlib.Decide.{decLt, decLe}
+use native.Mathlib.Omega.{arith}
+use lib.IntN.{ℤ, pos, negsuc}
+use lib.Dec.{eqb}
+use lib.ListN.{length, length-map, set, replicate}
+use lib.Signed.{mag}
+use mir.Syntax.{w32}
+use mir.Val.{hbits, toZ, ofZ}
+use borrow.Author.Tests.{eq-eqb, ne-eqb, le-ltb}
+use Rattle.numbers.specs.Fields.{natOf}
+use Rattle.numbers.proofs.Signed.{told}
+use Rattle.numbers.specs.Progress.{position}
+use Rattle.rules.specs.declared.Node.{Node}
+use Rattle.rules.specs.declared.Ledger.{Ledger}
+use Rattle.rules.specs.declared.View.{View}
+use Rattle.rules.specs.declared.Request.{Request}
+use Rattle.rules.specs.declared.Change.the-variants.{Keep}
+use Rattle.rules.specs.Refusals.{refusal}
+use Rattle.rules.specs.Requests.{refused, outcome, owning, advancing, marking, expanding, looking, granted, decided}
+use Rattle.ledger.specs.Pairs.{pairOf}
+use Rattle.rules.specs.declared.Opening.{Opening}
+use Rattle.rules.specs.Limits.{opens}
+use Rattle.rules.proofs.Facts.{both, facts}
+use Rattle.rules.proofs.Opens.{opens-facts}
+use Rattle.rules.proofs.Record.{WF, rules}
+use Rattle.rules.proofs.Range.{within-range}
+use Rattle.rules.specs.Nodes.{positionOf, leftOver, middle}
+use Rattle.rules.specs.Table.{at}
+use Rattle.rules.specs.WellFormed.{upTo, childRule, numbersRule, wellFormed}
+
+-- a signed field that was tested
+pub natural-small : (z : ℤ) → mag z < 2 ^ hbits w32 → natOf z ≤ 2147483647
+natural-small (pos n) h = omega arith
+natural-small (negsuc n) h = omega arith
+
+pub position-small : (z : ℤ) → mag z < 2 ^ hbits w32 → position z ≤ 2147483647
+position-small (pos n) h = omega arith
+position-small (negsuc n) h = omega arith
+
+-- a signed field as it was read, and then converted
+pub natural-held : (z : ℤ) (k : ℕ) → mag z < 2 ^ hbits w32 → k ≡ natOf (toZ w32 (ofZ w32 z)) → natOf z ≡ k
+natural-held z k h e = sym (e ∙ ap natOf (told z h))
+
+-- the middle of a node passes neither its end nor its position
+pub middle-small : (x : Node) (k : ℕ) → positionOf x ≤ k → x .until ≤ k → middle x ≤ k
+unfolding middle
+middle-small x k p u = omega arith
+
+-- an opening within its limits starts within them
+pub start-small : (o : Opening) → opens o ≡ true → natOf (o .start) ≤ 2147483647
+start-small o e = let f = opens-facts o e in omega (arith, f .start .high, f .until .high)
+
+-- a ledger whose numbers are within their limits
+pub used-small : (l : Ledger) → numbersRule l ≡ true → l .used ≤ 1023
+unfolding opens
+used-small l e = omega (arith, simp facts at e)
+
+pub numbers-first : (l : Ledger) → wellFormed l ≡ true → numbersRule l ≡ true
+unfolding wellFormed
+numbers-first l e = both (numbersRule l) _ .0 e .0
+
+-- no node of a well-formed ledger, in use or not, ends past the largest until
+pub until-small : (l : Ledger) → length (l .nodes) ≡ 1023 → wellFormed l ≡ true → (n : ℕ) → at l n .until ≤ 2147483647
+until-small l slots e n = go (decLe n (l .used)) (decLe 1 n)
+  where
+    w : WF l
+    w = rules l slots e
+
+    of-slot : (k : ℕ) → 1 ≤ k → k ≤ l .used → at l k .until ≤ 2147483647
+    of-slot k p q = omega (arith, within-range l w k p q .high, w .until-limit)
+
+    zeroth : at l 0 ≡ at l 1
+    zeroth = unfold at in refl
+
+    go : Dec (n ≤ l .used) → Dec (1 ≤ n) → at l n .until ≤ 2147483647
+    go (no h) d = rw (w .blank n (omega arith)) (omega arith)
+    go (yes h) (yes k) = of-slot n k h
+    go (yes h) (no k) =
+        let z : n ≡ 0 = omega arith in
+        rw (z, zeroth) (of-slot 1 (omega arith) (omega (arith, w .odd)))
+
+-- the length of a table, of which owning it tells only through a map
+pub length-under : (X Y : Type 0) (f : X → Y) (l : List X) (n : ℕ) → length (map f l) ≡ n → length l ≡ n
+length-under X Y f l n p = sym (length-map l f) ∙ p
+
+-- a choice that was made
+pub chosen : {A : Type 0} (b : Bool) (x y z : A) → b ≡ true → z ≡ x → z ≡ cond b x y
+chosen b x y z e h = rw e h
+
+pub passed-by : {A : Type 0} (b : Bool) (x y z : A) → b ≡ false → z ≡ y → z ≡ cond b x y
+passed-by b x y z e h = rw e h
+
+-- one more number passes a test, or does not
+pub upTo-none : (p : ℕ → Bool) → true ≡ upTo p 0
+unfolding upTo
+upTo-none p = refl
+
+pub upTo-more : (p : ℕ → Bool) (i : ℕ) {t u : Bool} → t ≡ upTo p i → u ≡ p (i + 1) → (t && u) ≡ upTo p (i + 1)
+unfolding upTo
+upTo-more p i e f = rw (add-one i, ← e, ← add-one i, ← f)
+
+pub upTo-same : (p q : ℕ → Bool) (k : ℕ) → ((n : ℕ) → 1 ≤ n → n ≤ k → p n ≡ q n) → upTo p k ≡ upTo q k
+unfolding upTo
+upTo-same p q zero h = refl
+upTo-same p q (suc k) h =
+    ap₂ _&&_ (upTo-same p q k (λ n a b. h n a (omega arith))) (h (suc k) (omega arith) (omega arith))
+
+-- a table of unused slots, with its first stored
+pub first-stored : (n k : ℕ) (x b : Node) → n ≡ suc k → set (replicate n b) 0 x ≡ x ∷ replicate k b
+first-stored n k x b e = rw e
+
+-- the rule looks at the children only where their numbers can be slots
+pub child-slots : (n used : ℕ) (x : Node) (slot node : ℕ → Node) (s : ℕ)
+    → used ≤ 1023
+    → ((i : ℕ) → node (i + 1) ≡ slot i)
+    → 1 ≤ s
+    → (1 ≤ x .left → x .left ≤ 1022 → s ≡ x .left)
+    → childRule n used x (slot (s - 1)) (slot s) ≡ childRule n used x (node (x .left)) (node (x .left + 1))
+unfolding childRule
+child-slots n used x slot node s small same low is = go (decLt 0 (x .left)) (decLt (x .left) used)
+  where
+    go : Dec (0 < x .left)
+        → Dec (x .left < used)
+        → childRule n used x (slot (s - 1)) (slot s) ≡ childRule n used x (node (x .left)) (node (x .left + 1))
+    go (no z) d = rw (eq-eqb (x .left) 0 (omega arith))
+    go (yes p) (no z) = simp (le-ltb (x .left) used (omega arith), and-false, false-and)
+    go (yes p) (yes q) =
+        let e : s ≡ x .left = is p (omega arith) in
+        let one : x .left - 1 + 1 ≡ x .left = omega arith in
+        let a : slot (x .left - 1) ≡ node (x .left) = sym (same (x .left - 1)) ∙ ap node one in
+        rw (e, a, ← same (x .left))
+
+-- a split takes no pair but the view's
+pub pair-small : (v : View) (r : Request) → pairOf (decided v r .change) ≤ v .pair
+unfolding decided
+pair-small v r = refused-or (eqb (refusal v r) 0)
+  where
+    of-kind : (a b c d : Bool)
+        → pairOf (cond a (owning v r) (cond b (advancing v r) (cond c (marking v r) (cond d (expanding v) (looking v)))) .change) ≤ v .pair
+    of-kind true b c d = unfold owning in (omega arith)
+    of-kind false true c d = unfold advancing in (omega arith)
+    of-kind false false true d = unfold marking in (omega arith)
+    of-kind false false false true = unfold expanding in (omega arith)
+    of-kind false false false false = unfold looking in (omega arith)
+
+    refused-or : (b : Bool) → pairOf (cond b (granted v r) (outcome (refused (refusal v r)) Keep) .change) ≤ v .pair
+    refused-or true =
+        unfold granted in (of-kind (eqb (natOf (r .kind)) 1) (eqb (natOf (r .kind)) 2) (eqb (natOf (r .kind)) 3) (eqb (natOf (r .kind)) 4))
+    refused-or false = omega arith

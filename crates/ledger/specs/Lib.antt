@@ -1,0 +1,3 @@
+-- What the ledger's code needs beside the rules.
+pub mod Pairs
+pub mod MoveTable

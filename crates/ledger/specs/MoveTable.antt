@@ -1,0 +1,8 @@
+-- The table of moves as a number for each state and request: the rule of the moves where both are 1 to 5, and else 0.
+use Prim.Native.Nat.{ℕ}
+use mathlib.Core.Bool.{Bool, cond, _&&_}
+use lib.Dec.{leb}
+use Rattle.rules.specs.Moves.{leads, asNumber}
+
+unfoldable pub movesOf : ℕ → ℕ → ℕ
+movesOf state kind = cond (leb 1 state && leb state 5 && leb 1 kind && leb kind 5) (asNumber (leads state kind)) 0

@@ -1,0 +1,164 @@
+// The rules of a well-formed ledger, group by group. Each test is total: a ledger handed in may hold any numbers.
+ghost use mathlib.Core.Path.{_≡_};
+ghost use Prim.Native.Nat.{ℕ, _+_, _≤_, _<_};
+ghost use lib.ListN.{getD};
+ghost use Rattle.rules.specs.Table.{at, sumBy};
+ghost use Rattle.rules.specs.WellFormed.{upTo, numbersRule, rootRange, aloneRule, rangesRule, childRule, nodeRule, leftIs, pairRule, roomRule, isBlank, unusedRule};
+use crate::nodes;
+use crate::table;
+use rules::Ledger;
+use rules::Node;
+use rules::Opening;
+
+pub(crate) fn numbers_ok(l: Ledger) -> bool
+    ensures { λ r. ⌜ r ≡ numbersRule l ⌝ }
+{
+    let ordered = (0 <= l.start) & (l.start <= l.until);
+    let ends = (0 <= l.until) & (l.until <= Opening::UNTIL);
+    let some = (1 <= l.teams) & (l.teams <= Opening::TEAMS);
+    let room = (1 <= l.room) & (l.room <= Opening::NODES as u32);
+    let used = (l.used % 2 == 1) & (l.used <= l.room);
+    (ordered & ends & some & true & room) & used
+}
+
+pub(crate) fn root_ok(l: Ledger) -> bool
+    ensures { λ r. ⌜ r ≡ rootRange l ⌝ }
+{
+    let x = l.nodes[0];
+    (x.start == l.start) & (x.until == l.until)
+}
+
+fn alone_ok(teams: u32, x: Node) -> bool
+    ensures { λ r. ⌜ r ≡ aloneRule teams x ⌝ }
+{
+    let p = nodes::position_of(x);
+    let marked = nodes::is_marked(x);
+    let inside = (x.start <= p) & (p <= x.until) & (!marked | ((p as u64) + 2 <= (x.until as u64)));
+    let nobody = nodes::is_unowned(x);
+    let fresh = !nobody | numbers::is_number(x.progress, x.start);
+    let empty = !(x.start == x.until) | nobody;
+    inside & (x.owner <= teams) & fresh & empty & (!(teams == 1) | !marked)
+}
+
+fn ranges_ok(x: Node, a: Node, b: Node) -> bool
+    ensures { λ r. ⌜ r ≡ rangesRule x a b ⌝ }
+{
+    let p = nodes::position_of(x);
+    let m = nodes::middle_of(x);
+    (a.start == p) & (a.until == m) & (b.start == m) & (b.until == x.until)
+}
+
+fn child_ok(n: u32, used: u32, x: Node, a: Node, b: Node) -> bool
+    ensures { λ r. ⌜ r ≡ childRule n used x a b ⌝ }
+{
+    let marked = nodes::is_marked(x);
+    let left = (x.left % 2 == 0) & (n < x.left) & (x.left < used);
+    let ranges = ranges_ok(x, a, b);
+    nodes::is_childless(x) | (marked & left & ranges)
+}
+
+// A left child's number as a slot that has a next one: itself, where it can be one.
+fn pair_slot(left: u32) -> usize
+    ensures { λ r. ⌜ (1 ≤ r) × (r ≤ 1022) × ((1 ≤ left) → (left ≤ 1022) → r ≡ left) ⌝ }
+{
+    if left < 1 {
+        return 1;
+    }
+    if 1022 < left {
+        return 1;
+    }
+    left as usize
+}
+
+pub(crate) fn nodes_ok(l: Ledger) -> bool
+    requires { ⌜ l .used ≤ 1023 ⌝ }
+    ensures { λ r. ⌜ r ≡ upTo (nodeRule l) (l .used) ⌝ }
+{
+    let used = l.used;
+    let teams = l.teams;
+    let mut ok = true;
+    let mut i: u32 = 0;
+    while i < used {
+        let slot = i as usize;
+        let x = l.nodes[slot];
+        let right = pair_slot(x.left);
+        let left = right - 1;
+        let a = l.nodes[left];
+        let b = l.nodes[right];
+        let alone = alone_ok(teams, x);
+        let child = child_ok(i + 1, used, x, a, b);
+        ok = ok & (alone & child);
+        i += 1;
+    }
+    ok
+}
+
+// A number below 1,023 as itself, any other as 1,023.
+fn tally_slot(left: u32) -> usize
+    ensures { λ r. ⌜ (r ≤ 1023) × ((left < 1023) → r ≡ left) × ((1023 ≤ left) → r ≡ 1023) ⌝ }
+{
+    if left < 1023 { left as usize } else { 1023 }
+}
+
+// At each number below 1,023, how many nodes have it for left child.
+fn tally(l: Ledger) -> [u32; 1024]
+    ensures { λ r. ⌜ ((c : ℕ) → c < 1023 → getD r c 0 ≡ sumBy (leftIs c) (l .nodes)) ⌝ }
+{
+    let mut seen = [0u32; 1024];
+    let mut i: usize = 0;
+    while i < Opening::NODES {
+        let x = l.nodes[i];
+        let e = tally_slot(x.left);
+        let had = seen[e];
+        seen[e] = had + 1;
+        i += 1;
+    }
+    seen
+}
+
+pub(crate) fn pairs_ok(l: Ledger) -> bool
+    requires { ⌜ l .used ≤ 1023 ⌝ }
+    ensures { λ r. ⌜ r ≡ upTo (pairRule l) (l .used) ⌝ }
+{
+    let used = l.used;
+    let seen = tally(l);
+    let mut ok = true;
+    let mut i: u32 = 0;
+    while i < used {
+        let c = (i + 1) as usize;
+        let had = seen[c];
+        ok = ok & (!(c % 2 == 0) | (had == 1));
+        i += 1;
+    }
+    ok
+}
+
+pub(crate) fn room_ok(l: Ledger) -> bool
+    ensures { λ r. ⌜ r ≡ roomRule l ⌝ }
+{
+    let k = table::stolen_in(l);
+    (l.used as u64) + 2 * (k as u64) <= (l.room as u64)
+}
+
+fn blank_ok(x: Node) -> bool
+    ensures { λ r. ⌜ r ≡ isBlank x ⌝ }
+{
+    let still = numbers::is_number(x.progress, 0);
+    (x.start == 0) & (x.until == 0) & still & (x.owner == 0) & (x.left == 0)
+}
+
+pub(crate) fn unused_ok(l: Ledger) -> bool
+    ensures { λ r. ⌜ r ≡ upTo (unusedRule l) 1023 ⌝ }
+{
+    let used = l.used;
+    let mut ok = true;
+    let mut i: u32 = 0;
+    while i < 1023 {
+        let slot = i as usize;
+        let x = l.nodes[slot];
+        let none = blank_ok(x);
+        ok = ok & ((i + 1 <= used) | none);
+        i += 1;
+    }
+    ok
+}

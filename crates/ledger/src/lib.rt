@@ -1,0 +1,108 @@
+// The ledger: opening, well formed, the requests and the unclaimed count, each exactly as the definitions of `rules` say.
+ghost use mathlib.Core.Path.{_≡_};
+ghost use Prim.Native.Nat.{_≤_};
+ghost use Rattle.rules.specs.Limits.{maxUntil};
+ghost use Rattle.rules.specs.Opening.{opening};
+ghost use Rattle.rules.specs.WellFormed.{wellFormed};
+ghost use Rattle.rules.specs.Requests.{decided, requested};
+ghost use Rattle.rules.specs.Count.{counted};
+use rules::Answered;
+use rules::Ledger;
+use rules::Opened;
+use rules::Opening;
+use rules::Outcome;
+use rules::Request;
+use rules::Unclaimed;
+use rules::View;
+
+mod codes;
+mod forms;
+mod grants;
+pub mod moves;
+mod nodes;
+mod opens;
+mod table;
+
+// Opens a ledger, or refuses with 20 and an all-zero ledger.
+pub fn open(o: Opening) -> Opened
+    ensures { λ r. ⌜ r ≡ opening o ⌝ }
+{
+    if o.is_good() {
+        let l = opens::opened_by(o);
+        Opened { code: 0, ledger: l }
+    } else {
+        let l = opens::closed_ledger();
+        Opened {
+            code: 20,
+            ledger: l,
+        }
+    }
+}
+
+// Whether a ledger, of any numbers at all, is well formed.
+pub fn well_formed(l: Ledger) -> bool
+    ensures { λ r. ⌜ r ≡ wellFormed l ⌝ }
+{
+    if forms::numbers_ok(l) {
+        let root = forms::root_ok(l);
+        let nodes = forms::nodes_ok(l);
+        let pairs = forms::pairs_ok(l);
+        let room = forms::room_ok(l);
+        let unused = forms::unused_ok(l);
+        root & nodes & pairs & room & unused
+    } else {
+        false
+    }
+}
+
+// One request: its answer, and the ledger after it. A refusal changes nothing.
+pub fn request(l: Ledger, r: Request) -> Answered
+    ensures { λ x. ⌜ x ≡ requested l r ⌝ }
+{
+    if well_formed(l) {
+        let n = numbers::natural(r.node);
+        let o = decide(table::view_of(l, n), r);
+        let c = o.change;
+        let a = o.answer;
+        let m = table::changed_by(l, n, c);
+        Answered {
+            ledger: m,
+            answer: a,
+        }
+    } else {
+        let a = grants::refused_by(1);
+        Answered {
+            ledger: l,
+            answer: a,
+        }
+    }
+}
+
+// The unclaimed count; a ledger that is not well formed gets code 1 instead.
+pub fn count(l: Ledger) -> Unclaimed
+    ensures { λ r. ⌜ r ≡ counted l ⌝ }
+{
+    if well_formed(l) {
+        let sum = table::unclaimed_in(l);
+        Unclaimed {
+            code: 0,
+            count: sum,
+        }
+    } else {
+        Unclaimed { code: 1, count: 0 }
+    }
+}
+
+// What a request answers and does, by the one node it names. This is no public call: it is for callers who know that the ledger is
+// well formed, in which no node ends past the largest until.
+pub fn decide(v: View, r: Request) -> Outcome
+    requires { ⌜ v .node .until ≤ maxUntil ⌝ }
+    ensures { λ o. ⌜ o ≡ decided v r ⌝ }
+{
+    let code = codes::refusal_of(v, r);
+    if code != 0 {
+        let a = grants::refused_by(code);
+        return grants::unchanged(a);
+    }
+    grants::granted_by(v, r)
+}
