@@ -1,0 +1,5 @@
+-- What follows from the step rules.
+pub mod Stages
+pub mod Changes
+pub mod Asked
+pub mod Fair
