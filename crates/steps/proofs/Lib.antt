@@ -3,3 +3,5 @@ pub mod Stages
 pub mod Changes
 pub mod Asked
 pub mod Fair
+pub mod Seeks
+pub mod Runs
