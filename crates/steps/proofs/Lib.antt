@@ -5,3 +5,5 @@ pub mod Asked
 pub mod Fair
 pub mod Seeks
 pub mod Runs
+pub mod Nothing
+pub mod Fits
