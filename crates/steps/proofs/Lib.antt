@@ -7,3 +7,6 @@ pub mod Seeks
 pub mod Runs
 pub mod Nothing
 pub mod Fits
+pub mod Refused
+pub mod Turns
+pub mod Demands
