@@ -26,7 +26,7 @@ use Rattle.rules.proofs.Split.{split-here, split-other}
 use Rattle.rules.proofs.States.{available-is, owned-is, completed-is, stolen-is, expanded-is}
 
 -- a state after a request of a kind, from the state before
-abbrev Leads : Node → ℕ → Node → Type 0
+abbrev pub Leads : Node → ℕ → Node → Type 0
 Leads x kind y = isIn (stateOf y) (leads (stateOf x) kind) ≡ true
 
 -- by the two states, of which the rule speaks
@@ -105,7 +105,7 @@ module _ (l : Ledger) (w : WF l) (r : Request) (asked : Asked (l .teams) (l .use
       (expanded-is y (record { mark = e .mark; parent = omega arith }))
       refl
 
-  pub fits : nodeIn r ≤ length (l .nodes)
+  fits : nodeIn r ≤ length (l .nodes)
   fits = omega (arith, asked .node .high, w .used-room, w .room-high, w .slots)
 
   stored : (y : Node) (k : ℕ) → natOf (r .kind) ≡ k → Leads x k y → Leads x (natOf (r .kind)) (at (put l n y) n)
