@@ -8,22 +8,31 @@ ghost use Rattle.steps.specs.Asks.{request};
 ghost use Rattle.steps.specs.Places.{scan, stealable, again, onward, takeChild, grownSize, sightMoves, seekMoves, takeMoves, workMoves, claimMoves, markMoves, splitMoves, joinMoves};
 ghost use Rattle.steps.specs.Turn.{asks, moves};
 ghost use Rattle.teams.specs.Ready.{Limited, Small};
-
-use rules::{Request, Answer};
-use steps::{Place, Side, Team};
 use crate::records;
+use rules::Answer;
+use rules::Request;
+use steps::Place;
+use steps::Side;
+use steps::Team;
 
 // The kinds of requests.
 const OWN: u32 = 1;
+
 const ADVANCE: u32 = 2;
+
 const MARK: u32 = 3;
+
 const EXPAND: u32 = 4;
+
 const LOOK: u32 = 5;
 
 // The states of a node, as a look tells them.
 const AVAILABLE: u32 = 1;
+
 const OWNED: u32 = 2;
+
 const STOLEN: u32 = 4;
+
 const EXPANDED: u32 = 5;
 
 fn request_of(kind: u32, number: u32, node: u32, position: i32, amount: u32) -> Request
@@ -33,7 +42,13 @@ fn request_of(kind: u32, number: u32, node: u32, position: i32, amount: u32) -> 
     let t = numbers::to_signed(number);
     let n = numbers::to_signed(node);
     let a = numbers::to_signed(amount);
-    Request { kind: k, team: t, node: n, position: position, amount: a }
+    Request {
+        kind: k,
+        team: t,
+        node: n,
+        position: position,
+        amount: a,
+    }
 }
 
 // The request that a team makes at its place. One that has stopped makes none, which is a request of kind 0.
@@ -65,7 +80,11 @@ fn owned_moves(number: u32, t: Team, a: Answer) -> Team
     ensures { λ r. ⌜ (t .node ≤ maxNode → r ≡ cond (stealable number a) (mark t (t .node) (a .«from»)) (onward t)) ⌝ }
 {
     let n = t.node;
-    if is_stealable(number, a) { records::mark_at(t, n, a.from) } else { records::seek_at(t, records::next_of(n)) }
+    if is_stealable(number, a) {
+        records::mark_at(t, n, a.from)
+    } else {
+        records::seek_at(t, records::next_of(n))
+    }
 }
 
 fn sight_moves(number: u32, t: Team, a: Answer) -> Team
@@ -107,7 +126,11 @@ fn held_moves(number: u32, t: Team, a: Answer) -> Team
     ensures { λ r. ⌜ r ≡ cond (eqb (a .owner) number) (claim t (t .node) (a .«from»)) (again t) ⌝ }
 {
     let n = t.node;
-    if a.owner == number { records::claim_at(t, n, a.from) } else { records::seek_at(t, 1) }
+    if a.owner == number {
+        records::claim_at(t, n, a.from)
+    } else {
+        records::seek_at(t, 1)
+    }
 }
 
 fn work_moves(number: u32, t: Team, a: Answer) -> Team

@@ -2,14 +2,21 @@
 ghost use mathlib.Core.Path.{_≡_};
 ghost use Prim.Native.Nat.{_+_, _≤_};
 ghost use Rattle.steps.specs.Records.{maxNode, placed, aimed, sided, sized, seek, take, work, claim, mark, split, join, stop, childOn, isStopped};
-
-use steps::{Place, Side, Team};
+use steps::Place;
+use steps::Side;
+use steps::Team;
 
 fn place_at(t: Team, p: Place, n: u32) -> Team
     ensures { λ r. ⌜ r ≡ placed t p n ⌝ }
 {
     let side = t.side;
-    Team { place: p, node: n, position: t.position, side: side, size: t.size }
+    Team {
+        place: p,
+        node: n,
+        position: t.position,
+        side: side,
+        size: t.size,
+    }
 }
 
 fn aim_at(t: Team, p: u32) -> Team
@@ -24,7 +31,13 @@ fn turn_to(t: Team, d: Side) -> Team
     ensures { λ r. ⌜ r ≡ sided t d ⌝ }
 {
     let place = t.place;
-    Team { place: place, node: t.node, position: t.position, side: d, size: t.size }
+    Team {
+        place: place,
+        node: t.node,
+        position: t.position,
+        side: d,
+        size: t.size,
+    }
 }
 
 pub(crate) fn resize(t: Team, k: u32) -> Team
