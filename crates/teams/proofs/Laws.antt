@@ -1,5 +1,5 @@
 -- What the code of a step needs of the definitions, over plain variables.
-use mathlib.Core.Path.{_≡_, refl, ap, sym}
+use mathlib.Core.Path.{_≡_, refl}
 use mathlib.Core.Bool.{Bool, true, false, cond, _||_, true≢false}
 use Prim.Native.Nat.{ℕ, _+_, _≤_, _<_}
 use native.Mathlib.Omega.{arith}
@@ -12,7 +12,6 @@ use Rattle.numbers.specs.Fields.{within, natOf}
 use Rattle.numbers.proofs.Laws.{within-true}
 use Rattle.rules.specs.declared.Ledger.{Ledger}
 use Rattle.rules.specs.declared.Request.{Request}
-use Rattle.rules.specs.declared.Answer.{Answer}
 use Rattle.rules.specs.declared.Answered.{Answered}
 use Rattle.rules.specs.declared.View.{View}
 use Rattle.rules.specs.declared.Outcome.{Outcome}
@@ -26,20 +25,14 @@ use Rattle.rules.proofs.Keeps.{requested-wf}
 use Rattle.rules.proofs.Record.{WF, rules}
 use Rattle.rules.proofs.Tests.{passed}
 use Rattle.ledger.proofs.Laws.{until-small}
-use Rattle.steps.specs.declared.Place.{Place}
 use Rattle.steps.specs.declared.Team.{Team}
 use Rattle.steps.specs.declared.Stepped.{Stepped}
 use Rattle.steps.specs.declared.Turned.{Turned}
-use Rattle.steps.specs.Places.{lineAt, scan}
+use Rattle.steps.specs.Places.{scan}
 use Rattle.steps.specs.Records.{maxNode, isStopped}
 use Rattle.steps.specs.Step.{resting, asking, stepFrom, stepAt, unfit, soloTests, soloCode}
 use Rattle.steps.specs.Turn.{asks, moves, still, turning, turned}
-use Rattle.teams.specs.Ready.{Limited, Ready}
-
--- the moves from the place that a record is found at
-pub from-place : (number cap : ℕ) (r : Team) (a : Answer) (p : Place) → r .place ≡ p
-    → lineAt scan p .moves number cap r a ≡ moves scan number cap r a
-from-place number cap r a p e = sym (ap (λ (q : Place). lineAt scan q .moves number cap r a) e)
+use Rattle.places.specs.Ready.{Limited, Ready}
 
 -- ---- the limits of what a team sees
 

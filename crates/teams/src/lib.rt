@@ -5,7 +5,7 @@ ghost use Rattle.rules.specs.WellFormed.{wellFormed};
 ghost use Rattle.steps.specs.Places.{scan};
 ghost use Rattle.steps.specs.Step.{unfit, soloCode, unmoved, stepAt, soloStep};
 ghost use Rattle.steps.specs.Turn.{still, turned};
-ghost use Rattle.teams.specs.Ready.{Limited, Ready};
+ghost use Rattle.places.specs.Ready.{Limited, Ready};
 use rules::Change;
 use rules::Ledger;
 use rules::Opening;
@@ -13,9 +13,6 @@ use rules::View;
 use steps::Stepped;
 use steps::Team;
 use steps::Turned;
-
-mod places;
-mod records;
 
 // 19: what is wrong with a cap or a record.
 fn is_unfit(cap: i32, t: Team) -> bool
@@ -53,7 +50,7 @@ fn step_at(number: u32, cap: u32, l: Ledger, t: Team) -> Stepped
     ensures { λ r. ⌜ (wellFormed l ≡ true → Limited number t → r ≡ stepAt scan number cap l t) ⌝ }
 {
     let place = t.place;
-    if records::has_stopped(place) {
+    if places::has_stopped(place) {
         return unmoved_by(0, l, t);
     }
     let q = places::asks_of(number, t);
@@ -105,7 +102,7 @@ pub fn turn(number: u32, cap: u32, t: Team, v: View) -> Turned
     ensures { λ r. ⌜ (Ready number t v → r ≡ turned scan number cap t v) ⌝ }
 {
     let place = t.place;
-    if records::has_stopped(place) {
+    if places::has_stopped(place) {
         return still_turn(t);
     }
     let q = places::asks_of(number, t);
