@@ -57,20 +57,19 @@ sum-front f (x ∷ xs) (suc k) d e = ap (λ (n : ℕ). f x + n) (sum-front f xs 
 
 rest-or-left : (k : ℕ) (x : Node) → leftOver x ≤ sizeOf x → restOf x + leftTo k x ≤ sizeOf x
 unfolding restOf leftTo
-rest-or-left k x h = go (childless x) (leb k (x .left))
+rest-or-left k x h = go (ℕ-discrete (x .left) 0) (decLe k (x .left))
   where
-    go : (c b : Bool) → cond c (leftOver x) 0 + cond (c || b) 0 (leftOver x) ≤ sizeOf x
-    go true b = omega arith
-    go false true = omega arith
-    go false false = omega arith
+    go : Dec (x .left ≡ 0) → Dec (k ≤ x .left) → restOf x + leftTo k x ≤ sizeOf x
+    go (yes e) d = rw (eq-eqb (x .left) 0 e) (omega arith)
+    go (no ne) (yes p) = rw (ne-eqb (x .left) 0 ne, le-leb k (x .left) p) (omega arith)
+    go (no ne) (no p) = rw (ne-eqb (x .left) 0 ne, lt-leb k (x .left) (omega arith)) (omega arith)
 
 one-pair-more : (k : ℕ) (x : Node) → leftTo k x + leftToPair (k + 1) x ≤ leftTo (k + 1 + 1) x
 unfolding leftTo leftToPair
 one-pair-more k x = go (ℕ-discrete (x .left) 0) (decLt (x .left) k) (ℕ-discrete (x .left) (k + 1))
   where
     go : Dec (x .left ≡ 0) → Dec (x .left < k) → Dec (x .left ≡ k + 1)
-        → cond (childless x || leb k (x .left)) 0 (leftOver x) + cond (eqb (x .left) (k + 1)) (leftOver x) 0
-        ≤ cond (childless x || leb (k + 1 + 1) (x .left)) 0 (leftOver x)
+        → leftTo k x + leftToPair (k + 1) x ≤ leftTo (k + 1 + 1) x
     go (yes z) d e = rw (eq-eqb (x .left) 0 z, ne-eqb (x .left) (k + 1) (omega arith)) (omega arith)
     go (no z) (yes h) e =
         rw

@@ -7,7 +7,7 @@ use native.Mathlib.Decide.{ℕ-discrete}
 use borrow.Author.Tests.{eq-eqb, ne-eqb}
 use Rattle.rules.specs.declared.Ledger.{Ledger}
 use Rattle.rules.specs.Listed.{listed, ListedLists, ListedExamples}
-use Rattle.rules.specs.Listing.{sheets, Batch, batchOf, batches, grantedFrom, Lists, ends, parts}
+use Rattle.rules.specs.Listing.{sheets, Batch, isClaim, batchOf, batches, grantedFrom, Lists, ends, parts}
 use Rattle.rules.specs.Limits.{opens}
 use Rattle.rules.specs.Nodes.{middle, leftPart, rightPart}
 use Rattle.rules.specs.Opening.{opened, opening}
@@ -41,5 +41,5 @@ listed-lists l bs slots e =
     listed-lists-at l bs w (l .used) 1 (omega arith) (omega (arith, w .odd)) (omega arith)
 
 pub listed-examples : ListedExamples
-unfolding listed grantedFrom sheets opening opened opens batches batchOf requested wellFormed middle leftPart rightPart stateOf stolenOf at put grown sumBy stolenIn upTo aloneRule childRule nodeRule leftIs pairRule unusedRule ownCode advanceCode markCode expandCode kindCode refusal owning batchEnd advancing marking expanding looking granted decided view changed answered
+unfolding listed grantedFrom sheets opening opened opens batches batchOf isClaim requested wellFormed middle leftPart rightPart stateOf stolenOf at put grown sumBy stolenIn upTo aloneRule childRule nodeRule leftIs pairRule unusedRule ownCode advanceCode markCode expandCode kindCode refusal owning batchEnd advancing marking expanding looking granted decided view changed answered
 listed-examples = record { new = refl; in-order = refl; granted = refl; whole = refl }

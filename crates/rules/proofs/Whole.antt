@@ -13,11 +13,12 @@ use Rattle.rules.specs.declared.Node.{Node}
 use Rattle.rules.specs.declared.Ledger.{Ledger}
 use Rattle.rules.specs.declared.Request.{Request}
 use Rattle.rules.specs.declared.Answered.{Answered}
-use Rattle.rules.specs.Listing.{sheets, unclaimedOf, afterAll, Batch, batchOf, batches, grantedFrom, Lists, ends, parts, ListsOnly}
+use Rattle.rules.specs.Listing.{sheets, unclaimedOf, afterAll, Batch, batchIn, batchOf, batches, grantedFrom, Lists, ends, parts, ListsOnly}
 use Rattle.rules.specs.Nodes.{owned, moved, parted, positionOf, middle, leftPart, rightPart}
-use Rattle.rules.specs.Requests.{ranged, batchEnd, nodeIn, requested}
+use Rattle.rules.specs.Refusals.{refusal}
+use Rattle.rules.specs.Requests.{refused, ranged, batchEnd, view, nodeIn, requested}
 use Rattle.rules.specs.Table.{at, put, grown}
-use Rattle.rules.proofs.Batches.{sheets-join, sheets-none, no-batch, refused-batch, batchIn, one-batch, granted-here, granted-other}
+use Rattle.rules.proofs.Batches.{sheets-join, sheets-none, no-batch, one-batch, granted-here, granted-other}
 use Rattle.rules.proofs.Granted.{Asked, Advancing, after as splitAt, Answers, refuses, owns, advances, marks, expands, looks, answers}
 use Rattle.rules.proofs.Keeps.{no-children, wf-answers, requested-wf}
 use Rattle.rules.proofs.Nodes.{at-same, at-other}
@@ -219,23 +220,23 @@ module _ (l : Ledger) (bs : List Batch) (r : Request) (h : Whole l bs) (asked : 
 -- the facts of a change, with what the answer grants
 answers-whole : {l : Ledger} {bs : List Batch} {r : Request} {a : Answered} → Whole l bs → WF (a .ledger) → Answers l r a
     → Whole (a .ledger) (batchOf r (a .answer) ++ bs)
-answers-whole {l} {bs} {r} h good (refuses ne) = rw (refused-batch r _ ne) h
+answers-whole {l} {bs} {r} h good (refuses ne) = rw (no-batch r (refused (refusal (view l (nodeIn r)) r)) (λ e. ne)) h
 answers-whole {l} {bs} {r} h good (owns k q f) =
     rw
-    (no-batch r _ (omega arith))
+    (no-batch r _ (λ e. absurd (omega arith)))
     (still-whole l bs r h q (owned (at l (nodeIn r)) (natOf (r .team))) good (record { start = refl; until = refl; left = refl; still = λ some. refl }) refl)
 answers-whole {l} {bs} {r} h good (advances k q f) =
     let x = at l (nodeIn r) in
     rw (one-batch r (ranged (positionOf x) (batchEnd x r)) k refl) (moved-whole l bs r h q f good)
 answers-whole {l} {bs} {r} h good (marks k q f) =
     rw
-    (no-batch r _ (omega arith))
+    (no-batch r _ (λ e. absurd (omega arith)))
     (still-whole l bs r h q (moved (at l (nodeIn r)) (negsuc (positionOf (at l (nodeIn r))))) good (swap-leaf l bs r h q _ (no-children l (h .wf) r q (f .here .plain)) refl refl refl) refl)
 answers-whole {l} {bs} {r} h good (expands k q f) =
     rw
-    (no-batch r _ (omega arith))
+    (no-batch r _ (λ e. absurd (omega arith)))
     (split-whole l bs (nodeIn r) h (q .node .low) (q .node .high) (f .leaf) (omega (arith, f .fits, h .wf .room-high, h .wf .slots)) good)
-answers-whole {l} {bs} {r} h good (looks k q) = rw (no-batch r _ (omega arith)) h
+answers-whole {l} {bs} {r} h good (looks k q) = rw (no-batch r _ (λ e. absurd (omega arith))) h
 
 pub requested-whole : (l : Ledger) (bs : List Batch) (r : Request) → Whole l bs
     → Whole (requested l r .ledger) (batchOf r (requested l r .answer) ++ bs)

@@ -2,7 +2,7 @@
 -- or else its unclaimed sheets". The listing is a relation: nothing bounds its depth, and it asks nothing of the children's numbers.
 use Prim.Native.Nat.{ℕ, zero, suc, _+_, _-_, _<_}
 use mathlib.Core.Path.{_≡_}
-use mathlib.Core.Bool.{cond, _&&_}
+use mathlib.Core.Bool.{Bool, cond, _&&_}
 use mathlib.Core.List.{List, [], _∷_, _++_}
 use lib.Dec.{eqb}
 use Rattle.numbers.specs.Fields.{natOf}
@@ -49,13 +49,16 @@ pub record Batch : Type 0 where
   pub «from» : ℕ
   pub to : ℕ
 
--- the batch that an answer grants: it is read off the answer to an advance, and off nothing else
+-- an advance that was granted: it is read off the answer, and off nothing else
+unfoldable pub isClaim : Request → Answer → Bool
+isClaim r a = eqb (natOf (r .kind)) 2 && eqb (a .code) 0
+
+abbrev pub batchIn : Request → Answer → Batch
+batchIn r a = record { team = natOf (r .team); node = nodeIn r; «from» = a .from; to = a .to }
+
+-- what an answer grants
 unfoldable pub batchOf : Request → Answer → List Batch
-batchOf r a =
-    cond
-    (eqb (natOf (r .kind)) 2 && eqb (a .code) 0)
-    (record { team = natOf (r .team); node = nodeIn r; «from» = a .from; to = a .to } ∷ [])
-    []
+batchOf r a = cond (isClaim r a) (batchIn r a ∷ []) []
 
 -- all that was granted, the newest first
 unfoldable pub batches : Ledger → List Request → List Batch
