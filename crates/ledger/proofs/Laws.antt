@@ -1,21 +1,15 @@
 -- What the ledger's code needs of the definitions, over plain variables.
 use mathlib.Core.Path.{_≡_, refl, sym, ap, ap₂, _∙_}
-use mathlib.Core.Bool.{Bool, true, false, cond, _&&_, _||_, and-false, false-and}
+use mathlib.Core.Bool.{Bool, true, false, cond, _&&_, and-false, false-and}
 use mathlib.Core.List.{List, map, _∷_}
-use Prim.Native.Nat.{ℕ, zero, suc, _+_, _-_, _/_, _≤_, _<_, _^_}
+use Prim.Native.Nat.{ℕ, zero, suc, _+_, _-_, _≤_, _<_}
 use native.Mathlib.Numerals.{add-one}
 use native.Mathlib.Decide.{decLt, decLe}
 use native.Mathlib.Omega.{arith}
-use lib.IntN.{ℤ, pos, negsuc}
 use lib.Dec.{eqb}
 use lib.ListN.{length, length-map, set, replicate}
-use lib.Signed.{mag}
-use mir.Syntax.{w32}
-use mir.Val.{hbits, toZ, ofZ}
-use borrow.Author.Tests.{eq-eqb, ne-eqb, le-ltb}
+use borrow.Author.Tests.{eq-eqb, le-ltb}
 use Rattle.numbers.specs.Fields.{natOf}
-use Rattle.numbers.proofs.Signed.{told}
-use Rattle.numbers.specs.Progress.{position}
 use Rattle.rules.specs.declared.Node.{Node}
 use Rattle.rules.specs.declared.Ledger.{Ledger}
 use Rattle.rules.specs.declared.View.{View}
@@ -30,27 +24,10 @@ use Rattle.rules.proofs.Facts.{both, facts}
 use Rattle.rules.proofs.Opens.{opens-facts}
 use Rattle.rules.proofs.Record.{WF, rules}
 use Rattle.rules.proofs.Range.{within-range}
-use Rattle.rules.specs.Nodes.{positionOf, leftOver, middle}
+use Rattle.rules.specs.Nodes.{blank, fresh}
+use Rattle.rules.specs.Opening.{opened, ledgerOf}
 use Rattle.rules.specs.Table.{at}
 use Rattle.rules.specs.WellFormed.{upTo, childRule, numbersRule, wellFormed}
-
--- a signed field that was tested
-pub natural-small : (z : ℤ) → mag z < 2 ^ hbits w32 → natOf z ≤ 2147483647
-natural-small (pos n) h = omega arith
-natural-small (negsuc n) h = omega arith
-
-pub position-small : (z : ℤ) → mag z < 2 ^ hbits w32 → position z ≤ 2147483647
-position-small (pos n) h = omega arith
-position-small (negsuc n) h = omega arith
-
--- a signed field as it was read, and then converted
-pub natural-held : (z : ℤ) (k : ℕ) → mag z < 2 ^ hbits w32 → k ≡ natOf (toZ w32 (ofZ w32 z)) → natOf z ≡ k
-natural-held z k h e = sym (e ∙ ap natOf (told z h))
-
--- the middle of a node passes neither its end nor its position
-pub middle-small : (x : Node) (k : ℕ) → positionOf x ≤ k → x .until ≤ k → middle x ≤ k
-unfolding middle
-middle-small x k p u = omega arith
 
 -- an opening within its limits starts within them
 pub start-small : (o : Opening) → opens o ≡ true → natOf (o .start) ≤ 2147483647
@@ -89,13 +66,6 @@ until-small l slots e n = go (decLe n (l .used)) (decLe 1 n)
 pub length-under : (X Y : Type 0) (f : X → Y) (l : List X) (n : ℕ) → length (map f l) ≡ n → length l ≡ n
 length-under X Y f l n p = sym (length-map l f) ∙ p
 
--- a choice that was made
-pub chosen : {A : Type 0} (b : Bool) (x y z : A) → b ≡ true → z ≡ x → z ≡ cond b x y
-chosen b x y z e h = rw e h
-
-pub passed-by : {A : Type 0} (b : Bool) (x y z : A) → b ≡ false → z ≡ y → z ≡ cond b x y
-passed-by b x y z e h = rw e h
-
 -- one more number passes a test, or does not
 pub upTo-none : (p : ℕ → Bool) → true ≡ upTo p 0
 unfolding upTo
@@ -112,8 +82,24 @@ upTo-same p q (suc k) h =
     ap₂ _&&_ (upTo-same p q k (λ n a b. h n a (omega arith))) (h (suc k) (omega arith) (omega arith))
 
 -- a table of unused slots, with its first stored
-pub first-stored : (n k : ℕ) (x b : Node) → n ≡ suc k → set (replicate n b) 0 x ≡ x ∷ replicate k b
+first-stored : (n k : ℕ) (x b : Node) → n ≡ suc k → set (replicate n b) 0 x ≡ x ∷ replicate k b
 first-stored n k x b e = rw e
+
+pub opened-made : (o : Opening) (a b t m : ℕ) (root : Node) (ns : List Node)
+    → natOf (o .start) ≡ a
+    → natOf (o .until) ≡ b
+    → natOf (o .teams) ≡ t
+    → natOf (o .nodes) ≡ m
+    → root ≡ fresh a b
+    → ns ≡ replicate 1023 blank
+    → record { start = a; until = b; teams = t; room = m; used = 1; nodes = set ns 0 root } ≡ ledgerOf o
+unfolding opened
+opened-made o a b t m root ns p q r s e f =
+    rw
+    (p, q, r, s, e, f)
+    (ap
+    (λ (xs : List Node). record { start = a; until = b; teams = t; room = m; used = 1; nodes = xs })
+    (first-stored 1023 1022 (fresh a b) blank refl))
 
 -- the rule looks at the children only where their numbers can be slots
 pub child-slots : (n used : ℕ) (x : Node) (slot node : ℕ → Node) (s : ℕ)

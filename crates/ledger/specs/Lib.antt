@@ -1,3 +1,2 @@
 -- What the ledger's code needs beside the rules.
 pub mod Pairs
-pub mod MoveTable

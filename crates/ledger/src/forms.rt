@@ -4,7 +4,6 @@ ghost use Prim.Native.Nat.{ℕ, _+_, _≤_, _<_};
 ghost use lib.ListN.{getD};
 ghost use Rattle.rules.specs.Table.{at, sumBy};
 ghost use Rattle.rules.specs.WellFormed.{upTo, numbersRule, rootRange, aloneRule, rangesRule, childRule, nodeRule, leftIs, pairRule, roomRule, isBlank, unusedRule};
-use crate::nodes;
 use crate::table;
 use rules::Ledger;
 use rules::Node;

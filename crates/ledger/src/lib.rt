@@ -1,10 +1,8 @@
 // The ledger: opening, well formed, the requests and the unclaimed count, each exactly as the definitions of `rules` say.
 ghost use mathlib.Core.Path.{_≡_};
-ghost use Prim.Native.Nat.{_≤_};
-ghost use Rattle.rules.specs.Limits.{maxUntil};
 ghost use Rattle.rules.specs.Opening.{opening};
 ghost use Rattle.rules.specs.WellFormed.{wellFormed};
-ghost use Rattle.rules.specs.Requests.{decided, requested};
+ghost use Rattle.rules.specs.Requests.{requested};
 ghost use Rattle.rules.specs.Count.{counted};
 use rules::Answered;
 use rules::Ledger;
@@ -15,11 +13,7 @@ use rules::Request;
 use rules::Unclaimed;
 use rules::View;
 
-mod codes;
 mod forms;
-mod grants;
-pub mod moves;
-mod nodes;
 mod opens;
 mod table;
 
@@ -61,7 +55,7 @@ pub fn request(l: Ledger, r: Request) -> Answered
 {
     if well_formed(l) {
         let n = numbers::natural(r.node);
-        let o = decide(table::view_of(l, n), r);
+        let o = nodes::decide(table::view_of(l, n), r);
         let c = o.change;
         let a = o.answer;
         let m = table::changed_by(l, n, c);
@@ -70,7 +64,7 @@ pub fn request(l: Ledger, r: Request) -> Answered
             answer: a,
         }
     } else {
-        let a = grants::refused_by(1);
+        let a = nodes::grants::refused_by(1);
         Answered {
             ledger: l,
             answer: a,
@@ -91,18 +85,4 @@ pub fn count(l: Ledger) -> Unclaimed
     } else {
         Unclaimed { code: 1, count: 0 }
     }
-}
-
-// What a request answers and does, by the one node it names. This is no public call: it is for callers who know that the ledger is
-// well formed, in which no node ends past the largest until.
-pub fn decide(v: View, r: Request) -> Outcome
-    requires { ⌜ v .node .until ≤ maxUntil ⌝ }
-    ensures { λ o. ⌜ o ≡ decided v r ⌝ }
-{
-    let code = codes::refusal_of(v, r);
-    if code != 0 {
-        let a = grants::refused_by(code);
-        return grants::unchanged(a);
-    }
-    grants::granted_by(v, r)
 }

@@ -5,7 +5,6 @@ ghost use lib.ListN.{replicate};
 ghost use Rattle.rules.specs.Limits.{opens};
 ghost use Rattle.rules.specs.Nodes.{blank};
 ghost use Rattle.rules.specs.Opening.{ledgerOf, closed};
-use crate::nodes;
 use rules::Ledger;
 use rules::Node;
 use rules::Opening;

@@ -5,7 +5,6 @@ ghost use Rattle.rules.specs.Table.{at, put, grown, stolenIn};
 ghost use Rattle.rules.specs.Requests.{view, changed};
 ghost use Rattle.rules.specs.Count.{unclaimed};
 ghost use Rattle.ledger.specs.Pairs.{pairOf};
-use crate::nodes;
 use rules::Change;
 use rules::Ledger;
 use rules::Node;

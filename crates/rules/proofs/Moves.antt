@@ -26,7 +26,7 @@ use Rattle.rules.proofs.Split.{split-here, split-other}
 use Rattle.rules.proofs.States.{available-is, owned-is, completed-is, stolen-is, expanded-is}
 
 -- a state after a request of a kind, from the state before
-abbrev Leads : Node → ℕ → Node → Type 0
+abbrev pub Leads : Node → ℕ → Node → Type 0
 Leads x kind y = isIn (stateOf y) (leads (stateOf x) kind) ≡ true
 
 -- by the two states, of which the rule speaks

@@ -1,6 +1,6 @@
 -- The sum, of a well-formed ledger alone.
 use mathlib.Core.Path.{sym, _∙_}
-use Rattle.ledger.proofs.Laws.{chosen, passed-by}
+use Rattle.nodes.proofs.Laws.{chosen, passed-by}
 use Rattle.rules.specs.Count.{counted}
 use Rattle.ledger.proofs.count.Statement.{statement}
 use Rattle.ledger.proofs.count.Tie as tie

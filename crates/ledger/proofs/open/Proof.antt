@@ -1,6 +1,6 @@
 -- Opened within the limits, and else closed.
 use mathlib.Core.Path.{sym, _∙_}
-use Rattle.ledger.proofs.Laws.{chosen, passed-by}
+use Rattle.nodes.proofs.Laws.{chosen, passed-by}
 use Rattle.rules.specs.Opening.{opening}
 use Rattle.ledger.proofs.open.Statement.{statement}
 use Rattle.ledger.proofs.open.Tie as tie

@@ -1,9 +1,0 @@
--- COMPLETED is progress = until.
-use Rattle.numbers.proofs.Signed.{told}
-use Rattle.ledger.proofs.nodes.is_completed.Statement.{statement}
-use Rattle.ledger.proofs.nodes.is_completed.Tie as tie
-
-pub is-completed-spec : {M : Type 1} → statement M
-is-completed-spec = tie.close (tie.spec
-    (λ c κs. tt)
-    (λ c. cc (told (c .before .before .args .x .progress) (c .before .struct-told .given .1 .1 .0 .1))))

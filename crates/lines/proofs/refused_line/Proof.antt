@@ -1,0 +1,38 @@
+-- The line writer at the word refused and its two numbers.
+use borrow.Author.Needs.{needs}
+use Rattle.numbers.proofs.Signed.{held}
+use Rattle.lines.proofs.refused_line.Statement.{statement}
+use Rattle.lines.proofs.refused_line.Tie as tie
+
+slice-aggregate-write-line : tie.Need-slice-aggregate-write-line
+slice-aggregate-write-line c = search needs
+
+slice-aggregate-write-line-2 : tie.Need-slice-aggregate-write-line-2
+slice-aggregate-write-line-2 c = search needs
+
+slice-aggregate-write-line-3 : tie.Need-slice-aggregate-write-line-3
+slice-aggregate-write-line-3 c = search needs
+
+slice-aggregate-write-line-4 : tie.Need-slice-aggregate-write-line-4
+slice-aggregate-write-line-4 c = search needs
+
+write-line-requires : tie.Need-write-line-requires
+write-line-requires c κs = search needs
+
+same-length : tie.Need-same-length
+same-length c = search needs
+
+returns : tie.Need-returns
+returns c = let f = c .before .before .before .before .before .before .before .before .before .fits in rw (held _ (f .code), held _ (f .line)) at (c .before .before .write-line .ensures)
+
+pub refused-line-spec : {M : Type 1} → statement M
+refused-line-spec =
+    tie.close
+    (tie.spec
+    slice-aggregate-write-line
+    slice-aggregate-write-line-2
+    slice-aggregate-write-line-3
+    slice-aggregate-write-line-4
+    write-line-requires
+    same-length
+    returns)

@@ -1,0 +1,2 @@
+-- What the code on a node needs beside the rules.
+pub mod MoveTable

@@ -1,0 +1,159 @@
+// What a granted request answers, and what it does to the node.
+ghost use mathlib.Core.Path.{_≡_};
+ghost use Prim.Native.Nat.{_≤_};
+ghost use Rattle.rules.specs.Limits.{maxUntil};
+ghost use Rattle.rules.specs.Requests.{refused, ranged, split, seen, outcome, owning, batchEnd, advancing, marking, expanding, looking, granted};
+use rules::Answer;
+use rules::Change;
+use rules::Node;
+use rules::Outcome;
+use rules::Request;
+use rules::View;
+
+pub fn refused_by(code: u32) -> Answer
+    ensures { λ a. ⌜ a ≡ refused code ⌝ }
+{
+    Answer {
+        code: code,
+        state: 0,
+        from: 0,
+        to: 0,
+        owner: 0,
+        left: 0,
+    }
+}
+
+fn range_answer(from: u32, to: u32) -> Answer
+    ensures { λ a. ⌜ a ≡ ranged «from» to ⌝ }
+{
+    Answer {
+        code: 0,
+        state: 0,
+        from: from,
+        to: to,
+        owner: 0,
+        left: 0,
+    }
+}
+
+fn split_answer(left: u32, mid: u32) -> Answer
+    ensures { λ a. ⌜ a ≡ split left mid ⌝ }
+{
+    Answer {
+        code: 0,
+        state: 0,
+        from: mid,
+        to: 0,
+        owner: 0,
+        left: left,
+    }
+}
+
+fn look_answer(x: Node) -> Answer
+    ensures { λ a. ⌜ a ≡ seen x ⌝ }
+{
+    let s = crate::state_of(x);
+    let p = crate::position_of(x);
+    Answer {
+        code: 0,
+        state: s,
+        from: p,
+        to: x.until,
+        owner: x.owner,
+        left: x.left,
+    }
+}
+
+pub(crate) fn unchanged(a: Answer) -> Outcome
+    ensures { λ o. ⌜ o ≡ outcome a Change.Keep ⌝ }
+{
+    Outcome {
+        answer: a,
+        change: Change::Keep,
+    }
+}
+
+fn stored(a: Answer, x: Node) -> Outcome
+    ensures { λ o. ⌜ o ≡ outcome a (Change.Store x) ⌝ }
+{
+    Outcome {
+        answer: a,
+        change: Change::Store(x),
+    }
+}
+
+fn own_outcome(v: View, r: Request) -> Outcome
+    ensures { λ o. ⌜ o ≡ owning v r ⌝ }
+{
+    let x = v.node;
+    let y = crate::owned_by(x, numbers::natural(r.team));
+    stored(range_answer(x.start, x.until), y)
+}
+
+// Two signed numbers that are not negative never make an unsigned sum wrap.
+fn batch_end(x: Node, r: Request) -> u32
+    ensures { λ e. ⌜ e ≡ batchEnd x r ⌝ }
+{
+    let p = numbers::natural(r.position);
+    let k = numbers::natural(r.amount);
+    numbers::lesser(p + k, x.until)
+}
+
+fn advance_outcome(v: View, r: Request) -> Outcome
+    ensures { λ o. ⌜ (v .node .until ≤ maxUntil → o ≡ advancing v r) ⌝ }
+{
+    let x = v.node;
+    let p = numbers::natural(r.position);
+    let e = batch_end(x, r);
+    let y = crate::moved_to(x, numbers::to_signed(e));
+    stored(range_answer(p, e), y)
+}
+
+fn mark_outcome(v: View, r: Request) -> Outcome
+    ensures { λ o. ⌜ o ≡ marking v r ⌝ }
+{
+    let x = v.node;
+    let p = numbers::natural(r.position);
+    let y = crate::moved_to(x, numbers::mark_of(r.position));
+    stored(range_answer(p, x.until), y)
+}
+
+fn expand_outcome(v: View) -> Outcome
+    ensures { λ o. ⌜ (v .node .until ≤ maxUntil → o ≡ expanding v) ⌝ }
+{
+    let x = v.node;
+    let pair = v.pair;
+    let y = crate::parted_at(x, pair);
+    let a = crate::left_part(x);
+    let b = crate::right_part(x);
+    let answer = split_answer(pair, crate::middle_of(x));
+    Outcome {
+        answer: answer,
+        change: Change::Split {
+            parent: y,
+            pair: pair,
+            left: a,
+            right: b,
+        },
+    }
+}
+
+fn look_outcome(v: View) -> Outcome
+    ensures { λ o. ⌜ o ≡ looking v ⌝ }
+{
+    let x = v.node;
+    unchanged(look_answer(x))
+}
+
+pub(crate) fn granted_by(v: View, r: Request) -> Outcome
+    ensures { λ o. ⌜ (v .node .until ≤ maxUntil → o ≡ granted v r) ⌝ }
+{
+    let k = numbers::natural(r.kind);
+    match k {
+        1 => own_outcome(v, r),
+        2 => advance_outcome(v, r),
+        3 => mark_outcome(v, r),
+        4 => expand_outcome(v),
+        _ => look_outcome(v),
+    }
+}

@@ -1,0 +1,160 @@
+// One node: what it is, each way to make one, and what a request decides of it.
+ghost use mathlib.Core.Path.{_≡_};
+ghost use Prim.Native.Nat.{_≤_};
+ghost use lib.IntN.{ℤ, pos, negsuc};
+ghost use Rattle.rules.specs.Limits.{maxUntil};
+ghost use Rattle.rules.specs.Nodes.{blank, fresh, owned, moved, parted, positionOf, leftOver, marked, unowned, childless, middle, leftPart, rightPart};
+ghost use Rattle.rules.specs.States.{completed, stateOf, stolenOf};
+ghost use Rattle.rules.specs.Count.{restOf};
+ghost use Rattle.rules.specs.Requests.{decided};
+use rules::Node;
+use rules::Outcome;
+use rules::Request;
+use rules::View;
+
+mod codes;
+pub mod grants;
+pub mod moves;
+
+pub fn is_completed(x: Node) -> bool
+    ensures { λ r. ⌜ r ≡ completed x ⌝ }
+{
+    numbers::is_number(x.progress, x.until)
+}
+
+pub fn is_marked(x: Node) -> bool
+    ensures { λ r. ⌜ r ≡ marked x ⌝ }
+{
+    numbers::is_negative(x.progress)
+}
+
+pub fn is_childless(x: Node) -> bool
+    ensures { λ r. ⌜ r ≡ childless x ⌝ }
+{
+    x.left == 0
+}
+
+pub fn is_unowned(x: Node) -> bool
+    ensures { λ r. ⌜ r ≡ unowned x ⌝ }
+{
+    x.owner == 0
+}
+
+pub fn position_of(x: Node) -> u32
+    ensures { λ r. ⌜ r ≡ positionOf x ⌝ }
+{
+    numbers::position_of(x.progress)
+}
+
+pub fn left_over(x: Node) -> u32
+    ensures { λ r. ⌜ r ≡ leftOver x ⌝ }
+{
+    numbers::less_by(x.until, position_of(x))
+}
+
+// The middle is reached from the position by half of the rest, which never passes the range's end; a sum of both ends could.
+pub fn middle_of(x: Node) -> u32
+    ensures { λ r. ⌜ r ≡ middle x ⌝ }
+{
+    let p = position_of(x);
+    let rest = numbers::less_by(x.until, p);
+    p + rest / 2
+}
+
+pub fn state_of(x: Node) -> u32
+    ensures { λ r. ⌜ r ≡ stateOf x ⌝ }
+{
+    let held = numbers::given_code(is_unowned(x), 1, 2);
+    let stolen = numbers::given_code(is_marked(x), 4, held);
+    let expanded = numbers::given_code(is_marked(x) & !is_childless(x), 5, stolen);
+    numbers::given_code(is_completed(x), 3, expanded)
+}
+
+// 1 for a STOLEN node, 0 for any other.
+pub fn stolen_one(x: Node) -> u32
+    ensures { λ r. ⌜ r ≡ stolenOf x ⌝ }
+{
+    numbers::given_code(state_of(x) == 4, 1, 0)
+}
+
+// What the node adds to the unclaimed count.
+pub fn rest_of(x: Node) -> u32
+    ensures { λ r. ⌜ r ≡ restOf x ⌝ }
+{
+    numbers::given_code(is_childless(x), left_over(x), 0)
+}
+
+pub fn blank_node() -> Node
+    ensures { λ r. ⌜ r ≡ blank ⌝ }
+{
+    Node {
+        start: 0,
+        until: 0,
+        progress: 0,
+        owner: 0,
+        left: 0,
+    }
+}
+
+// A start past the limits is no progress, and is never asked for.
+pub fn fresh_node(a: u32, b: u32) -> Node
+    ensures { λ r. ⌜ (a ≤ maxUntil → r ≡ fresh a b) ⌝ }
+{
+    let p = numbers::to_signed(a);
+    Node {
+        start: a,
+        until: b,
+        progress: p,
+        owner: 0,
+        left: 0,
+    }
+}
+
+pub fn owned_by(x: Node, team: u32) -> Node
+    ensures { λ r. ⌜ r ≡ owned x team ⌝ }
+{
+    let mut y = x;
+    y.owner = team;
+    y
+}
+
+pub fn moved_to(x: Node, p: i32) -> Node
+    ensures { λ r. ⌜ r ≡ moved x p ⌝ }
+{
+    let mut y = x;
+    y.progress = p;
+    y
+}
+
+pub fn parted_at(x: Node, left: u32) -> Node
+    ensures { λ r. ⌜ r ≡ parted x left ⌝ }
+{
+    let mut y = x;
+    y.left = left;
+    y
+}
+
+pub fn left_part(x: Node) -> Node
+    ensures { λ r. ⌜ r ≡ leftPart x ⌝ }
+{
+    fresh_node(position_of(x), middle_of(x))
+}
+
+pub fn right_part(x: Node) -> Node
+    ensures { λ r. ⌜ (x .until ≤ maxUntil → r ≡ rightPart x) ⌝ }
+{
+    fresh_node(middle_of(x), x.until)
+}
+
+// What a request answers and does, by the one node it names. Of a well-formed ledger no node ends past the largest until, and there this
+// is the decision; it is no public call by itself.
+pub fn decide(v: View, r: Request) -> Outcome
+    ensures { λ o. ⌜ (v .node .until ≤ maxUntil → o ≡ decided v r) ⌝ }
+{
+    let code = codes::refusal_of(v, r);
+    if code != 0 {
+        let a = grants::refused_by(code);
+        return grants::unchanged(a);
+    }
+    grants::granted_by(v, r)
+}
