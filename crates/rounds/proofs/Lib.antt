@@ -1,0 +1,2 @@
+-- What the step over lent records needs, and its walk.
+pub mod Laws
