@@ -20,7 +20,7 @@ use Rattle.steps.specs.Records.{noTeam}
 use Rattle.steps.specs.Places.{scan}
 use Rattle.steps.specs.Step.{slotOf, recordOf, unfit, lentCode, soloCode, unmoved, stepUnless, lentStep, soloStep, recordsAfter, roundOf}
 use Rattle.rounds.specs.declared.Apart.{Apart}
-use Rattle.rounds.specs.Lent.{slotIn, outsideCode, refusedRound, apartStep, lentRound, lentRecords}
+use Rattle.rounds.specs.Lent.{slotIn, outsideCode, refusedRound, apartStep, lentRound, lentRecords, tableStep}
 
 -- the codes of a step by how its tests come out: 1, 3, 18 and 19
 abbrev lent : Bool → Bool → Bool → Bool → ℕ
@@ -98,3 +98,8 @@ module _ (l : Ledger) (number cap : ℤ) (ys : List Team) where
       let j : i ≡ slotOf number = at-slot ∙ slot-is (h .0) (h .1) in
       let c = same-code (h .0) (h .1) in
       let y : x ≡ apartStep l number cap r = rw j at is in (rw (c, y), rw (c, j, y))
+
+  pub table-made : {x : Round} {zs : List Team} → x ≡ lentRound l number cap ys → zs ≡ lentRecords l number cap ys
+      → record { round = x; records = zs } ≡ tableStep l number cap ys
+  unfolding tableStep
+  table-made e f = rw (e, f)

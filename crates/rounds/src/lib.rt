@@ -1,9 +1,10 @@
 // A step over the table of team records that the caller lends.
 ghost use mathlib.Core.Path.{_≡_};
 ghost use Rattle.rounds.specs.Lent.{slotIn, refusedRound, outsideCode, apartStep, lentRound, lentRecords, tableStep};
-
-use rules::{Opening, Ledger};
-use steps::{Team, Round};
+use rules::Ledger;
+use rules::Opening;
+use steps::Round;
+use steps::Team;
 
 // What a step answers, and the stepping team's record after it.
 pub struct Apart {
@@ -43,7 +44,12 @@ fn refused_round(l: Ledger, number: i32, n: usize) -> Round
 {
     let code = outside_code(l, number, n);
     let answer = nodes::grants::refused_by(code);
-    Round { ledger: l, kind: 0, node: 0, answer: answer }
+    Round {
+        ledger: l,
+        kind: 0,
+        node: 0,
+        answer: answer,
+    }
 }
 
 fn step_one(l: Ledger, number: i32, cap: i32, t: Team) -> Apart
@@ -53,8 +59,16 @@ fn step_one(l: Ledger, number: i32, cap: i32, t: Team) -> Apart
     let next = s.ledger;
     let team = s.team;
     let answer = s.answer;
-    let round = Round { ledger: next, kind: s.kind, node: s.node, answer: answer };
-    Apart { round: round, team: team }
+    let round = Round {
+        ledger: next,
+        kind: s.kind,
+        node: s.node,
+        answer: answer,
+    };
+    Apart {
+        round: round,
+        team: team,
+    }
 }
 
 // One step of a team, in a run with this cap: of the lent records only the stepping team's changes, and none where the step is refused,
@@ -78,5 +92,8 @@ pub fn step_in(l: Ledger, number: i32, cap: i32, records: [Team; 32]) -> Table
 {
     let mut table = records;
     let round = step_lent(l, number, cap, &mut table);
-    Table { round: round, records: table }
+    Table {
+        round: round,
+        records: table,
+    }
 }
