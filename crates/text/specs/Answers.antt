@@ -23,7 +23,7 @@ noOpening = record { start = pos 0; until = pos 0; teams = pos 0; cap = pos 0; n
 abbrev pub opensAs : Verdict → List Mark → Opening
 opensAs v ms = cond (isGranted v) (openingOf (headOf ms)) noOpening
 
--- the answer to a text of n bytes with these marks
+-- the answer that a verdict gives, for a text with these marks
 abbrev pub headerBy : Verdict → List Mark → Header
 headerBy v ms = record { code = v .code; line = v .line; opening = opensAs v ms }
 
