@@ -1,5 +1,5 @@
 -- The proof of specs/Demands.antt: a scanner's place moves as the law of the text's tokens says.
-use mathlib.Core.List.{List, [], _∷_}
+use mathlib.Core.List.{List}
 use Prim.Native.Nat.{ℕ}
 use denote.Ref.{RefT, now}
 use Rattle.text.specs.declared.Token.{Token}

@@ -2,7 +2,7 @@
 use mathlib.Core.Path.{_≡_, refl, sym, ap, subst, _∙_}
 use mathlib.Core.Bool.{Bool, true, false, cond, not, _&&_, _||_, true≢false, false≢true}
 use mathlib.Core.List.{List, [], _∷_}
-use Prim.Native.Nat.{ℕ, zero, suc, _+_, _*_, _-_, _≤_, _<_}
+use Prim.Native.Nat.{ℕ, suc, _+_, _*_, _-_, _≤_, _<_}
 use native.Mathlib.Omega.{arith}
 use lib.Dec.{eqb, leb, ltb}
 use lib.ListN.{length, drop}
@@ -10,7 +10,6 @@ use lib.IntN.{pos}
 use borrow.Author.Tests.{eq-eqb, leb-true, ltb-true, ltb-false, le-ltb}
 use Rattle.numbers.proofs.Laws.{signed-is}
 use Rattle.numbers.specs.Progress.{signed}
-use Rattle.numbers.specs.Fields.{natOf}
 use Rattle.rules.specs.Limits.{opens}
 use Rattle.text.specs.declared.Class.{Class}
 use Rattle.text.specs.declared.Class.the-variants.{LineEnd, Hash, Blank, Digit, Other}
@@ -24,7 +23,7 @@ use Rattle.text.specs.Judgement.{maxBytes, headerNumbers, ruled, granted
 use Rattle.text.specs.Answers.{headerOf, restPlace, scheduleOf, areaOf}
 use Rattle.text.specs.declared.Kind.the-variants as kind
 use Rattle.text.specs.Tokens.{tokenOf, tokenAt}
-use Rattle.text.specs.Demands.{SameButComments, nothing, same, other, SameAnswers, CommentsNeverMatter, AllTeams, none, more, GrantedIsWithinLimits, AllExact, exact, GrantedIsExact, NeverShort, Scans, ended, found, tokensOf, ScannerFindsTheMarks}
+use Rattle.text.specs.Demands.{SameButComments, nothing, same, other, CommentsNeverMatter, AllTeams, none, more, GrantedIsWithinLimits, AllExact, exact, GrantedIsExact, NeverShort, Scans, ended, found, tokensOf, ScannerFindsTheMarks}
 use Rattle.text.proofs.Scanning.{later, moves, at-end}
 use Rattle.text.proofs.Values.{small-value}
 use Rattle.text.proofs.Judging.{passed, granted-first, not-not, schedule-granted, granted-is}

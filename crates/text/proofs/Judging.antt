@@ -1,7 +1,7 @@
 -- The judgement put together: what the passes found is what the definitions say.
 use mathlib.Core.Path.{_≡_, refl, sym, ap, _∙_}
 use mathlib.Core.Bool.{Bool, true, false, not, true≢false, false≢true}
-use mathlib.Core.List.{List, []}
+use mathlib.Core.List.{List}
 use Prim.Native.Nat.{ℕ, _+_, _-_, _≤_, _<_}
 use native.Mathlib.Omega.{arith}
 use lib.Dec.{eqb, ltb}
@@ -17,10 +17,10 @@ use Rattle.text.specs.declared.Row.{Row}
 use Rattle.text.specs.declared.Tally.{Tally}
 use Rattle.text.specs.declared.Heading.{Heading}
 use Rattle.text.specs.Marks.{Mark, marks}
-use Rattle.text.specs.Lines.{headLine, fromHead, lineNumbers, afterLine, leftAfter, numbersOf}
+use Rattle.text.specs.Lines.{headLine, lineNumbers, afterLine, leftAfter, numbersOf}
 use Rattle.text.specs.Judgement.{maxBytes, headerNumbers, ruled, granted, isGranted, given, faultFrom, openingOf, headOf, headVerdict, headerVerdict, scheduleMarks, scheduleNumbers, teamsOf, strangerLine, bodyVerdict, scheduleVerdict}
 use Rattle.text.specs.Answers.{noOpening, restPlace, filled, scheduleOf, areaOf}
-use Rattle.text.specs.Passes.{FoundHead, FoundRow, tallyOf, FoundHeading}
+use Rattle.text.specs.Passes.{FoundHead, FoundRow, tallyOf, refusedHeading, FoundHeading}
 
 pub long-verdict : (n : ℕ) (ms : List Mark) → maxBytes < n → ruled 21 0 ≡ headerVerdict n ms
 unfolding headerVerdict
@@ -32,7 +32,7 @@ pub header-verdict : (n : ℕ) (ms : List Mark) → n ≤ maxBytes → (fault : 
 unfolding headerVerdict headVerdict
 header-verdict n ms h fault line count o f l c p = rw (le-ltb maxBytes n h, f, l, c, p)
 
-pub refused-heading : (text : List ℕ) (v : Verdict) → v ≡ headerVerdict (length text) (marks text) → isGranted v ≡ false → FoundHeading text (record { verdict = v; opening = noOpening; line = 0; end = length text })
+pub refused-heading : (text : List ℕ) (v : Verdict) → v ≡ headerVerdict (length text) (marks text) → isGranted v ≡ false → FoundHeading text (refusedHeading v (length text))
 unfolding restPlace
 refused-heading text v e g =
     record {

@@ -1,25 +1,24 @@
 -- What each pass keeps from one token to the next, over plain variables.
 use mathlib.Core.Path.{_≡_, refl, sym, ap, _∙_}
-use mathlib.Core.Bool.{Bool, true, false, cond, not, _&&_, true≢false, false≢true}
+use mathlib.Core.Bool.{Bool, true, false, cond, not, true≢false, false≢true}
 use mathlib.Core.List.{List, [], _∷_, _++_, map}
 use Prim.Native.Nat.{ℕ, zero, suc, _+_, _-_, _≤_, _<_}
 use native.Mathlib.Nat.{add-zero, zero-add}
 use native.Mathlib.Numerals.{add-one}
 use native.Mathlib.Omega.{arith}
-use lib.Dec.{eqb, ltb}
+use lib.Dec.{eqb}
 use lib.IntN.{ℤ}
-use lib.ListN.{length, getD, set, drop, length-set, length-map}
+use lib.ListN.{length, set, drop, length-set, length-map}
 use lib.Seq.{sets, set-out, sets-eq}
 use Rattle.numbers.specs.Progress.{signed}
-use borrow.Author.Tests.{eq-eqb, ne-eqb, eqb-true, eqb-false}
+use borrow.Author.Tests.{ne-eqb}
 use Rattle.text.specs.declared.Token.{Token}
-use Rattle.text.specs.declared.Verdict.{Verdict}
 use Rattle.text.specs.declared.Row.{Row}
 use Rattle.text.specs.declared.Tally.{Tally}
 use Rattle.text.specs.Marks.{Mark, lineEnd, number, wrong, marks}
 use Rattle.text.specs.Digits.{tooLarge, numberOf}
 use Rattle.text.specs.Lines.{headLine, fromHead, lineNumbers, afterLine, leftAfter, numbersOf}
-use Rattle.text.specs.Judgement.{maxBytes, granted, ruled, given, faultFrom, openingOf, isTeam, strangerFrom}
+use Rattle.text.specs.Judgement.{maxBytes, granted, ruled, faultFrom, openingOf, isTeam, strangerFrom}
 use Rattle.text.specs.Tokens.{tokenOf, isNumber, isLineEnd, lineAfter, faultOf, isStranger}
 use Rattle.text.specs.Passes.{FoundHead, rowAfter, FoundRow, earlierOf, tallyAfter, tallyOf}
 use Rattle.text.specs.Answers.{filled}

@@ -10,7 +10,7 @@ use lib.Seq.{drop-drop, drop-cons}
 use Rattle.text.specs.declared.Class.{Class}
 use Rattle.text.specs.declared.Class.the-variants.{LineEnd, Hash, Blank, Digit, Other}
 use Rattle.text.specs.Bytes.{classOf, isDigit}
-use Rattle.text.specs.Marks.{Mark, lineEnd, number, wrong, inComment, startsDigit, longer, withDigit, added, marksFrom, marks}
+use Rattle.text.specs.Marks.{Mark, lineEnd, number, wrong, inComment, startsDigit, longer, added, marksFrom, marks}
 use Rattle.text.specs.Digits.{numberOf}
 use Rattle.text.specs.declared.Token.{Token}
 use Rattle.text.specs.declared.Kind.the-variants as kind

@@ -7,7 +7,7 @@ use native.Mathlib.Omega.{arith}
 use lib.Dec.{ltb}
 use lib.ListN.{length}
 use borrow.Author.Tests.{lt-ltb, le-ltb, ltb-true, ltb-false}
-use Rattle.text.specs.Digits.{maxDigits, maxNumber, valueFrom, value, tooLarge, numberOf}
+use Rattle.text.specs.Digits.{maxDigits, maxNumber, refusedNumber, valueFrom, value, tooLarge, numberOf}
 use Rattle.text.specs.Tokens.{grown, grownBy, readAs}
 
 -- v stands for x: it is x, or both are too large
@@ -28,7 +28,7 @@ unfolding grownBy valueFrom
 stands-from [] v x s = s
 stands-from (d ∷ ds) v x s = stands-from ds (grown v d) (x * 10 + (d - 48)) (grown-stands v x d s)
 
-read-stands : (b : Bool) (v x : ℕ) → Stands v x → cond (b || ltb maxNumber v) 2147483648 v ≡ cond (b || ltb maxNumber x) 2147483648 x
+read-stands : (b : Bool) (v x : ℕ) → Stands v x → cond (b || ltb maxNumber v) refusedNumber v ≡ cond (b || ltb maxNumber x) refusedNumber x
 read-stands b v x same = refl
 read-stands true v x (over h k) = refl
 read-stands false v x (over h k) = rw (lt-ltb maxNumber v h, lt-ltb maxNumber x k)
@@ -46,8 +46,8 @@ pub grown-small : (v b : ℕ) → b < 256 → v ≤ 21474837000 → grown v b �
 grown-small v b h k = small-next (ltb maxNumber v) v b refl h k
 
 -- 23 tells a number from its value alone
-large-number : (t : Bool) (v : ℕ) → (t ≡ false → v ≤ maxNumber) → ltb maxNumber (cond t 2147483648 v) ≡ t
-large-number true v h = lt-ltb maxNumber 2147483648 (omega arith)
+large-number : (t : Bool) (v : ℕ) → (t ≡ false → v ≤ maxNumber) → ltb maxNumber (cond t refusedNumber v) ≡ t
+large-number true v h = lt-ltb maxNumber refusedNumber (omega arith)
 large-number false v h = le-ltb maxNumber v (h refl)
 
 not-large : (b : Bool) (v : ℕ) → (b || ltb maxNumber v) ≡ false → v ≤ maxNumber

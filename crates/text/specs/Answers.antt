@@ -2,8 +2,8 @@
 -- numbers are 0 and the area stays."
 use mathlib.Core.Path.{_≡_}
 use Prim.Native.Nat.{ℕ, _+_, _-_}
-use mathlib.Core.Bool.{Bool, cond}
-use mathlib.Core.List.{List, [], _∷_, _++_, map}
+use mathlib.Core.Bool.{cond}
+use mathlib.Core.List.{List, _++_, map}
 use lib.IntN.{ℤ, pos}
 use lib.ListN.{length, drop}
 use denote.Ref.{RefT, now}
@@ -23,7 +23,7 @@ noOpening = record { start = pos 0; until = pos 0; teams = pos 0; cap = pos 0; n
 abbrev pub opensAs : Verdict → List Mark → Opening
 opensAs v ms = cond (isGranted v) (openingOf (headOf ms)) noOpening
 
--- the answer to a text of n bytes with these marks
+-- the answer that a verdict gives, for a text with these marks
 abbrev pub headerBy : Verdict → List Mark → Header
 headerBy v ms = record { code = v .code; line = v .line; opening = opensAs v ms }
 

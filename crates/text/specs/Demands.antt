@@ -12,7 +12,7 @@ use Rattle.rules.specs.Limits.{opens}
 use Rattle.text.specs.declared.Kind.the-variants as kind
 use Rattle.text.specs.declared.Token.{Token}
 use Rattle.text.specs.Bytes.{classOf}
-use Rattle.text.specs.Marks.{Mark, lineEnd, number, wrong, inComment, marks}
+use Rattle.text.specs.Marks.{Mark, lineEnd, number, inComment, marks}
 use Rattle.text.specs.Digits.{value, numberOf}
 use Rattle.text.specs.Judgement.{scheduleNumbers}
 use Rattle.text.specs.Answers.{headerOf, restPlace, scheduleOf, areaOf}

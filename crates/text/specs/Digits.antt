@@ -23,6 +23,10 @@ value ds = valueFrom 0 ds
 unfoldable pub tooLarge : List ℕ → Bool
 tooLarge ds = ltb maxDigits (length ds) || ltb maxNumber (value ds)
 
--- what the digits are read as: their value, and 2,147,483,648 where that is refused
+-- what a number that is refused is read as: no number within the limits
+abbrev pub refusedNumber : ℕ
+refusedNumber = 2147483648
+
+-- what the digits are read as
 unfoldable pub numberOf : List ℕ → ℕ
-numberOf ds = cond (tooLarge ds) 2147483648 (value ds)
+numberOf ds = cond (tooLarge ds) refusedNumber (value ds)

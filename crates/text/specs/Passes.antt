@@ -1,10 +1,11 @@
 -- What the passes over a text find, each in terms of its marks.
 use mathlib.Core.Path.{_≡_}
 use Prim.Native.Nat.{ℕ, _+_, _-_, _≤_, _<_}
-use mathlib.Core.Bool.{Bool, true, false, cond}
+use mathlib.Core.Bool.{true, false, cond}
 use mathlib.Core.List.{List}
 use lib.Dec.{eqb}
 use lib.ListN.{length, getD, set, drop}
+use Rattle.text.specs.declared.Verdict.{Verdict}
 use Rattle.text.specs.declared.Head.{Head}
 use Rattle.text.specs.declared.Row.{Row}
 use Rattle.text.specs.declared.Token.{Token}
@@ -14,7 +15,7 @@ use Rattle.text.specs.Bytes.{classOf}
 use Rattle.text.specs.Marks.{Mark, marks}
 use Rattle.text.specs.Lines.{headLine, fromHead, lineNumbers, afterLine, leftAfter, numbersOf}
 use Rattle.text.specs.Judgement.{maxBytes, isGranted, openingOf, headerVerdict, scheduleMarks, strangerFrom}
-use Rattle.text.specs.Answers.{opensAs, restPlace}
+use Rattle.text.specs.Answers.{noOpening, opensAs, restPlace}
 use Rattle.text.specs.Tokens.{stops, isNumber, isStranger}
 
 -- nothing is said between the place and r, and a mark begins at r
@@ -68,6 +69,9 @@ pub record TallyAsked (text : List ℕ) (from on : ℕ) : Type 0 where
 
 abbrev pub tallyOf : ℕ → ℕ → List Mark → Tally
 tallyOf teams on ms = record { stranger = strangerFrom teams on ms; count = length (numbersOf ms) }
+
+abbrev pub refusedHeading : Verdict → ℕ → Heading
+refusedHeading v end = record { verdict = v; opening = noOpening; line = 0; end = end }
 
 -- the header, and where the schedule begins
 pub record FoundHeading (text : List ℕ) (r : Heading) : Type 0 where

@@ -2,7 +2,7 @@
 use Prim.Native.Nat.{ℕ, _+_, _-_, _*_}
 use mathlib.Core.Bool.{Bool, true, false, cond, not, _&&_, _||_}
 use mathlib.Core.List.{List, [], _∷_}
-use lib.Dec.{eqb, ltb}
+use lib.Dec.{ltb}
 use lib.ListN.{length, drop}
 use Rattle.text.specs.declared.Class.{Class}
 use Rattle.text.specs.declared.Class.the-variants.{LineEnd, Hash, Blank, Digit, Other}
@@ -12,7 +12,7 @@ use Rattle.text.specs.declared.Token.{Token}
 use Rattle.text.specs.declared.Run.{Run}
 use Rattle.text.specs.Bytes.{classOf, isDigit}
 use Rattle.text.specs.Marks.{Mark, lineEnd, number, wrong, marks}
-use Rattle.text.specs.Digits.{maxDigits, maxNumber, numberOf}
+use Rattle.text.specs.Digits.{maxDigits, maxNumber, refusedNumber, numberOf}
 use Rattle.text.specs.Judgement.{isTeam}
 
 abbrev pub tokenBy : K.Kind → ℕ → ℕ → Token
@@ -56,7 +56,7 @@ runAt text from =
 
 -- what a run of so many digits and that value is read as
 abbrev pub readAs : ℕ → ℕ → ℕ
-readAs count value = cond (ltb maxDigits count || ltb maxNumber value) 2147483648 value
+readAs count value = cond (ltb maxDigits count || ltb maxNumber value) refusedNumber value
 
 -- the kind of the token that a byte of this class makes by itself
 abbrev pub kindOf : Class → K.Kind

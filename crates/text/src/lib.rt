@@ -8,7 +8,7 @@ ghost use Rattle.text.specs.Marks.{marks, inComment};
 ghost use Rattle.text.specs.Lines.{numbersOf};
 ghost use Rattle.text.specs.Judgement.{maxBytes, ruled, isGranted, given, faultFrom, openingOf};
 ghost use Rattle.text.specs.Tokens.{stops, grown, runAt, readAs, kindOf, tokenAt, isNumber, isWrong, isLineEnd, lineAfter, faultOf, isStranger};
-ghost use Rattle.text.specs.Passes.{Skipped, FoundHead, rowAfter, FoundRow, earlierOf, tallyAfter, TallyAsked, tallyOf, FoundHeading};
+ghost use Rattle.text.specs.Passes.{Skipped, FoundHead, rowAfter, FoundRow, earlierOf, tallyAfter, TallyAsked, tallyOf, refusedHeading, FoundHeading};
 ghost use Rattle.text.specs.Answers.{noOpening, headerOf, RestItself, filled, scheduleOf, areaOf};
 use rules::Opening;
 
@@ -73,7 +73,7 @@ struct Row {
     end: usize,
 }
 
-// The numbers of the schedule: the line of the first that is no team's, 0 where there is none, and how many stand before that.
+// The numbers of the schedule: the line of the first that is no team's, 0 where there is none, and how many there are.
 struct Tally {
     stranger: u32,
     count: usize,
@@ -88,10 +88,12 @@ struct Heading {
 }
 
 impl Token {
-    // The most digits of a number, and the largest number.
+    // The most digits of a number.
     pub const DIGITS: usize = 10;
-
-    pub const LARGEST: u32 = 2147483647;
+    // The largest number.
+    pub const LARGEST: u64 = 2147483647;
+    // What a number that is refused is read as: it is too large by itself.
+    pub const REFUSED: u32 = 2147483648;
 }
 
 impl Header {
@@ -142,7 +144,7 @@ fn in_comment(inside: bool, class: Class) -> bool
     }
 }
 
-// Whether a byte of this class is the first of a token.
+// Whether a byte of this class is the first of a token: inside a comment only a line end is.
 fn is_first(inside: bool, class: Class) -> bool
     ensures { λ r. ⌜ r ≡ stops inside class ⌝ }
 {
@@ -178,13 +180,14 @@ fn one_more(value: u64, b: u8) -> u64
     ensures { λ r. ⌜ r ≡ grown value b ⌝ }
 {
     let digit = numbers::less_by(b as u32, 48);
-    if value > 2147483647 {
+    if value > Token::LARGEST {
         value
     } else {
         value * 10 + digit as u64
     }
 }
 
+// The run of digits at a place of the text.
 fn run_at(text: &[u8], from: usize) -> Run
     ensures { λ r. ⌜ r ≡ runAt (now (text .entry)) from ⌝ }
 {
@@ -202,14 +205,14 @@ fn run_at(text: &[u8], from: usize) -> Run
     Run { value, end: i }
 }
 
-// A run of digits as a number: one that is refused reads as the first that is too large.
+// A run of digits as a number.
 fn read_as(count: usize, value: u64) -> u32
     ensures { λ r. ⌜ r ≡ readAs count value ⌝ }
 {
     if count > Token::DIGITS {
-        2147483648
-    } else if value > 2147483647 {
-        2147483648
+        Token::REFUSED
+    } else if value > Token::LARGEST {
+        Token::REFUSED
     } else {
         value as u32
     }
@@ -295,6 +298,7 @@ fn ends_line(t: Token) -> bool
     }
 }
 
+// The line that comes after the token, where the token stands on the given one.
 fn line_after(t: Token, line: u32) -> u32
     requires { ⌜ line < 4294967295 ⌝ }
     ensures { λ r. ⌜ r ≡ lineAfter t line ⌝ }
@@ -307,7 +311,7 @@ fn fault_of(t: Token) -> u32
     ensures { λ r. ⌜ r ≡ faultOf t ⌝ }
 {
     let wrong = numbers::given_code(is_wrong(t), 22, 0);
-    numbers::given_code(is_number(t) & (t.value > Token::LARGEST), 23, wrong)
+    numbers::given_code(is_number(t) & (t.value as u64 > Token::LARGEST), 23, wrong)
 }
 
 // Whether the token is a number of the schedule that is no team's.
@@ -506,28 +510,31 @@ fn no_opening() -> Opening
     }
 }
 
-// The tests of the header's line, and the header where it is granted.
+fn refused(verdict: Verdict, end: usize) -> Heading
+    ensures { λ r. ⌜ r ≡ refusedHeading verdict end ⌝ }
+{
+    let opening = no_opening();
+    Heading {
+        verdict,
+        opening,
+        line: 0,
+        end,
+    }
+}
+
+// The header's tests over the whole text, last test first, and the header where it is granted.
 fn judge_header(text: &[u8]) -> Heading
     ensures { λ r. ⌜ FoundHeading (now (text .entry)) r ⌝ }
 {
     let n = text.len();
     if n > Header::BYTES {
-        return Heading {
-            verdict: Verdict { code: 21, line: 0 },
-            opening: no_opening(),
-            line: 0,
-            end: n,
-        };
+        return refused(Verdict { code: 21, line: 0 }, n);
     }
     let head = find_head(text);
     let row = read_row(text, head.place);
     let opening = opening_of(row);
-    let limits = ruled_by(
-        !opening.is_good(),
-        20,
-        head.line,
-        Verdict { code: 0, line: 0 },
-    );
+    let granted = Verdict { code: 0, line: 0 };
+    let limits = ruled_by(!opening.is_good(), 20, head.line, granted);
     let numbers = ruled_by(row.count != Header::NUMBERS, 24, head.line, limits);
     let verdict = refused_or(fault(text), numbers);
     if verdict.code == 0 {
@@ -538,12 +545,7 @@ fn judge_header(text: &[u8]) -> Heading
             end: row.end,
         }
     } else {
-        Heading {
-            verdict,
-            opening: no_opening(),
-            line: 0,
-            end: n,
-        }
+        refused(verdict, n)
     }
 }
 
@@ -577,12 +579,8 @@ pub fn read_schedule(text: &[u8], area: &mut [i32]) -> Schedule
     let opening = h.opening;
     let from = h.end;
     let tally = count_numbers(text, from, h.line + 1, numbers::natural(opening.teams));
-    let room = ruled_by(
-        area.len() < tally.count,
-        27,
-        0,
-        Verdict { code: 0, line: 0 },
-    );
+    let granted = Verdict { code: 0, line: 0 };
+    let room = ruled_by(area.len() < tally.count, 27, 0, granted);
     let body = ruled_by(tally.stranger != 0, 26, tally.stranger, room);
     let verdict = refused_or(h.verdict, body);
     if verdict.code == 0 {

@@ -30,7 +30,7 @@ use denote.Plain.{uint-makes}
 use denote.Builtin.{u8, usize}
 use denote.Ref.{RefT, NamedLft, MutRef, ptr-vals, mut-tells, now}
 use denote.Signature.{Slot, plain, namedLft}
-use denote.Slice.{sliceVal, ShrSlice, Room}
+use denote.Slice.{sliceVal, ShrSlice}
 use denote.Steps.{only, opens, closes, owned, peeks, heard, nothing}
 use denote.Struct.Declared.{Declared}
 use denote.Struct.Laws as LL

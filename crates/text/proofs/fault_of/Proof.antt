@@ -12,6 +12,9 @@ given-code-requires c κs = search needs
 is-number-requires : tie.Need-is-number-requires
 is-number-requires c κs = search needs
 
+cast-given-code : tie.Need-cast-given-code
+cast-given-code c = search needs
+
 given-code-requires-2 : tie.Need-given-code-requires-2
 given-code-requires-2 c κs = search needs
 
@@ -25,5 +28,6 @@ fault-of-spec =
     is-wrong-requires
     given-code-requires
     is-number-requires
+    cast-given-code
     given-code-requires-2
     returns)

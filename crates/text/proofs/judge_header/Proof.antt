@@ -9,13 +9,13 @@ use borrow.Author.Needs.{needs}
 use Rattle.text.proofs.judge_header.Statement.{statement}
 use Rattle.text.proofs.judge_header.Tie as tie
 
-no-opening-requires : tie.Need-no-opening-requires
-no-opening-requires c κs = search needs
+refused-requires : tie.Need-refused-requires
+refused-requires c κs = search needs
 
 returns : tie.Need-returns
 returns c =
     let text = c .before .before .before .args .text .now in
-    rw (c .no-opening .ensures) (refused-heading text (ruled 21 0) (long-verdict (length text) (marks text) (c .before .if1 .taken)) refl)
+    rw (c .refused .ensures) (refused-heading text (ruled 21 0) (long-verdict (length text) (marks text) (c .before .if1 .taken)) refl)
 
 find-head-requires : tie.Need-find-head-requires
 find-head-requires c κs = search needs
@@ -41,8 +41,8 @@ fault-requires c κs = search needs
 refused-or-requires : tie.Need-refused-or-requires
 refused-or-requires c κs = search needs
 
-no-opening-requires-2 : tie.Need-no-opening-requires-2
-no-opening-requires-2 c κs = search needs
+refused-requires-2 : tie.Need-refused-requires-2
+refused-requires-2 c κs = search needs
 
 returns-2 : tie.Need-returns-2
 returns-2 c =
@@ -72,13 +72,13 @@ returns-3 c =
     ∙ rw
     (c .before .before .before .before .before .ruled-by2 .ensures, c .before .before .before .before .before .before .before .ruled-by .ensures, good .ensures)
     (header-verdict (length text) (marks text) (c .before .before .before .before .before .before .before .before .before .before .before .before .if1 .left) (fault .result) (head .result .line) (row .result .count) _ (fault .ensures) (head .ensures .line) (row-count text (head .result) (row .result) (head .ensures) (row .ensures)) opening) in
-    rw (c .no-opening2 .ensures) (refused-heading text _ verdict (ne-eqb _ 0 (c .before .if2 .left)))
+    rw (c .refused2 .ensures) (refused-heading text _ verdict (ne-eqb _ 0 (c .before .if2 .left)))
 
 pub judge-header-spec : {M : Type 1} → statement M
 judge-header-spec =
     tie.close
     (tie.spec
-    no-opening-requires
+    refused-requires
     returns
     find-head-requires
     read-row-requires
@@ -88,6 +88,6 @@ judge-header-spec =
     ruled-by-requires-2
     fault-requires
     refused-or-requires
-    no-opening-requires-2
+    refused-requires-2
     returns-2
     returns-3)

@@ -1,12 +1,11 @@
 -- The header's judgement and the tally decide; only a granted text is written into the area.
-use mathlib.Core.Path.{_≡_, _∙_, sym}
-use mathlib.Core.Bool.{true, false}
+use mathlib.Core.Path.{_≡_, _∙_}
 use lib.ListN.{length}
 use borrow.Author.Tests.{eq-eqb, ne-eqb}
 use Rattle.numbers.proofs.Signed.{told}
 use Rattle.numbers.specs.Fields.{natOf}
 use Rattle.text.specs.Marks.{marks}
-use Rattle.text.specs.Judgement.{isGranted, scheduleVerdict}
+use Rattle.text.specs.Judgement.{scheduleVerdict}
 use Rattle.text.proofs.Judging.{Granted, schedule-granted, schedule-verdict, granted-room, granted-answer, granted-area, refused-answer, refused-area}
 use borrow.Author.Needs.{needs}
 use Rattle.text.proofs.read_schedule.Statement.{statement}
