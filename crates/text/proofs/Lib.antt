@@ -1,0 +1,5 @@
+pub mod Scanning
+pub mod Values
+pub mod Passing
+pub mod Judging
+pub mod Demands
