@@ -1,5 +1,5 @@
 -- The step over lent records is refused where the team's record stands nowhere, and else it is the step of that record.
-use mathlib.Core.Path.{_≡_, refl, sym, ap, _∙_}
+use mathlib.Core.Path.{_≡_, refl, sym, _∙_}
 use mathlib.Core.Logic.{_≢_}
 use mathlib.Core.Bool.{Bool, true, false, cond, not}
 use mathlib.Core.List.{List}
@@ -10,15 +10,14 @@ use lib.IntN.{ℤ}
 use lib.ListN.{length, getD, set}
 use lib.Seq.{set-getD}
 use borrow.Author.Tests.{ne-eqb, ltb-false}
-use Rattle.numbers.specs.Fields.{within, natOf}
+use Rattle.numbers.specs.Fields.{within}
 use Rattle.numbers.proofs.Laws.{within-true}
 use Rattle.rules.specs.declared.Ledger.{Ledger}
 use Rattle.rules.specs.WellFormed.{wellFormed}
 use Rattle.steps.specs.declared.Team.{Team}
 use Rattle.steps.specs.declared.Round.{Round}
 use Rattle.steps.specs.Records.{noTeam}
-use Rattle.steps.specs.Places.{scan}
-use Rattle.steps.specs.Step.{slotOf, recordOf, unfit, lentCode, soloCode, unmoved, stepUnless, lentStep, soloStep, recordsAfter, roundOf}
+use Rattle.steps.specs.Step.{slotOf, recordOf, unfit, lentCode, soloCode, stepUnless, lentStep, soloStep, recordsAfter}
 use Rattle.rounds.specs.declared.Apart.{Apart}
 use Rattle.rounds.specs.Lent.{slotIn, outsideCode, refusedRound, apartStep, lentRound, lentRecords, tableStep}
 

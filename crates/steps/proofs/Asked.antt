@@ -21,7 +21,7 @@ use Rattle.rules.specs.Table.{at, put, stolenIn}
 use Rattle.rules.specs.Refusals.{ownCode, advanceCode, expandCode, kindCode, refusal}
 use Rattle.rules.specs.Requests.{refused, ranged, split, seen, batchEnd, view, nodeIn, requested}
 use Rattle.rules.proofs.Expand.{room-left}
-use Rattle.rules.proofs.Granted.{Asked, Advancing, Marking, after, Answers, refuses, owns, advances, marks, expands, looks, answers}
+use Rattle.rules.proofs.Granted.{Advancing, Marking, after, Answers, refuses, owns, advances, marks, expands, looks, answers}
 use Rattle.rules.proofs.Keeps.{requested-wf}
 use Rattle.rules.proofs.Record.{WF}
 use Rattle.rules.proofs.States.{Available, Stolen, is-available, is-stolen, is-expanded}

@@ -1,17 +1,17 @@
 -- A record in a run stays within its limits, so that no step of a run is refused.
-use mathlib.Core.Path.{_≡_, refl, ap}
+use mathlib.Core.Path.{_≡_, refl}
 use mathlib.Core.Bool.{Bool, true, false, cond}
-use Prim.Native.Nat.{ℕ, _+_, _*_, _≤_, min}
+use Prim.Native.Nat.{ℕ, _+_, _≤_}
 use native.Mathlib.Omega.{arith}
 use lib.Dec.{eqb}
-use borrow.Author.Tests.{eqb-true, ne-eqb}
+use borrow.Author.Tests.{eqb-true}
 use Rattle.rules.specs.declared.Ledger.{Ledger}
 use Rattle.rules.specs.declared.Request.{Request}
 use Rattle.rules.specs.declared.Answer.{Answer}
 use Rattle.rules.specs.declared.Answered.{Answered}
 use Rattle.rules.specs.declared.Change.{Change}
 use Rattle.rules.specs.declared.Change.the-variants as change
-use Rattle.rules.specs.Requests.{refused, seen, changed, decided, view, nodeIn, answered, requested}
+use Rattle.rules.specs.Requests.{seen, changed, decided, view, nodeIn, answered, requested}
 use Rattle.rules.specs.States.{AVAILABLE, STOLEN, EXPANDED, stateOf}
 use Rattle.rules.specs.Table.{at, put, grown}
 use Rattle.rules.proofs.Keeps.{requested-wf}
@@ -24,7 +24,7 @@ use Rattle.steps.specs.declared.Side.the-variants.{Left, Right}
 use Rattle.steps.specs.declared.Team.{Team}
 use Rattle.steps.specs.Asks.{mark, expand, look}
 use Rattle.steps.specs.Records.{childOn, sized, take, work}
-use Rattle.steps.specs.Places.{Search, lineAt, scan, again, onward, grownSize, mine, stealable, takeMoves, workMoves, claimMoves, splitMoves, joinMoves, seekMoves, markMoves}
+use Rattle.steps.specs.Places.{Search, lineAt, scan, again, onward, mine, stealable, takeMoves, workMoves, claimMoves, splitMoves, joinMoves, seekMoves, markMoves}
 use Rattle.steps.specs.Step.{stepFrom}
 use Rattle.steps.proofs.Asked.{InUse, by-mark, by-expand, by-look}
 use Rattle.steps.proofs.Fair.{is-child}

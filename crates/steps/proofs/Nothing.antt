@@ -1,5 +1,5 @@
 -- Once every team has stopped, nothing is unclaimed.
-use mathlib.Core.Path.{_≡_, refl, _∙_}
+use mathlib.Core.Path.{_≡_, refl}
 use mathlib.Core.Logic.{_≢_}
 use mathlib.Core.Bool.{Bool, true, false, cond}
 use mathlib.Core.List.{List}
@@ -7,14 +7,13 @@ use Prim.Native.Nat.{ℕ, zero, suc, _+_, _-_, _%_, _≤_, _<_}
 use native.Mathlib.Omega.{arith}
 use native.Mathlib.Decide.{ℕ-discrete, decLe}
 use lib.Dec.{eqb}
-use lib.IntN.{ℤ, pos}
-use lib.ListN.{getD}
+use lib.IntN.{ℤ}
 use borrow.Author.Tests.{eqb-true}
 use Rattle.rules.specs.declared.Node.{Node}
 use Rattle.rules.specs.declared.Ledger.{Ledger}
 use Rattle.rules.specs.Count.{restOf, unclaimed}
 use Rattle.rules.specs.Nodes.{blank, leftOver}
-use Rattle.rules.specs.States.{AVAILABLE, OWNED, stateOf}
+use Rattle.rules.specs.States.{AVAILABLE, stateOf}
 use Rattle.rules.specs.Table.{at}
 use Rattle.rules.proofs.Nodes.{at-next}
 use Rattle.rules.proofs.Range.{parent-of}

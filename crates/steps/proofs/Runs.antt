@@ -1,14 +1,14 @@
 -- What holds of a run of teams, step by step, for any programs that seek as they should.
-use mathlib.Core.Path.{_≡_, refl, sym, ap, _∙_}
+use mathlib.Core.Path.{_≡_, refl, ap, _∙_}
 use mathlib.Core.Logic.{_≢_}
-use mathlib.Core.Bool.{Bool, true, false, cond, not}
+use mathlib.Core.Bool.{Bool, true, false, cond}
 use mathlib.Core.List.{List, [], _∷_}
-use Prim.Native.Nat.{ℕ, zero, suc, _+_, _-_, _≤_, _<_}
+use Prim.Native.Nat.{ℕ, zero, suc, _-_, _≤_}
 use native.Mathlib.Omega.{arith}
 use native.Mathlib.Decide.{ℕ-discrete}
 use lib.Dec.{eqb}
 use lib.IntN.{ℤ, pos}
-use lib.ListN.{length, getD, set, replicate, length-set, length-replicate, getD-replicate}
+use lib.ListN.{length, set, replicate, length-set, length-replicate, getD-replicate}
 use lib.Seq.{getD-set-same, getD-set-other, set-getD}
 use borrow.Author.Tests.{eqb-true, ltb-false, not-false}
 use Rattle.numbers.specs.Fields.{within, natOf}
@@ -22,7 +22,7 @@ use Rattle.rules.specs.declared.Change.the-variants as change
 use Rattle.rules.specs.Limits.{opens}
 use Rattle.rules.specs.Opening.{opened, ledgerOf}
 use Rattle.rules.specs.Requests.{changed, decided, view, nodeIn, answered, requested}
-use Rattle.rules.specs.States.{AVAILABLE, OWNED, stateOf}
+use Rattle.rules.specs.States.{AVAILABLE, stateOf}
 use Rattle.rules.specs.Table.{at, put, grown}
 use Rattle.rules.proofs.Keeps.{wf-answered, requested-wf}
 use Rattle.rules.proofs.Opens.{opened-wf, opened-root}
@@ -40,9 +40,8 @@ use Rattle.steps.specs.Step.{stepFrom, stepAt, unmoved, lentTests, lentC
 use Rattle.steps.specs.Run.{Run, begun, stepTeam, runTeams}
 use Rattle.steps.proofs.Stages.{Stage, taking, ended, stageOf, stageAt, Tended, All, Moved}
 use Rattle.steps.proofs.Changes.{tended-shut, fresh-states}
-use Rattle.steps.proofs.Asked.{InUse}
 use Rattle.steps.proofs.Fair.{Fair, fair-stopped, fair-take, fair-work, fair-claim, fair-split, fair-join, fair-hunt, taken, leaf}
-use Rattle.steps.proofs.Seeks.{Searching, seeks, steals, Hopeful, will-take, searching, Seeks}
+use Rattle.steps.proofs.Seeks.{seeks, steals, Hopeful, will-take, searching, Seeks}
 
 -- ---- the stages of a table of records
 

@@ -16,7 +16,7 @@ use Rattle.steps.specs.Asks as asks
 use Rattle.steps.specs.Records.{freshTeam}
 use Rattle.steps.specs.Places.{Search, lineAt, scan, seekMoves, markMoves}
 use Rattle.steps.proofs.Stages.{hunt, taking, stageOf}
-use Rattle.steps.proofs.Asked.{InUse, by-look}
+use Rattle.steps.proofs.Asked.{by-look}
 use Rattle.steps.proofs.Fair.{Hunts, looks, marks}
 
 -- the two places of a search

@@ -1,7 +1,7 @@
 -- What the code of a step needs of the definitions, over plain variables.
 use mathlib.Core.Path.{_≡_, refl}
 use mathlib.Core.Bool.{Bool, true, false, cond, _||_, true≢false}
-use Prim.Native.Nat.{ℕ, _+_, _≤_, _<_}
+use Prim.Native.Nat.{ℕ, _≤_, _<_}
 use native.Mathlib.Omega.{arith}
 use native.Mathlib.Decide.{decLe, decLt}
 use lib.Dec.{eqb}
@@ -26,12 +26,10 @@ use Rattle.rules.proofs.Record.{WF, rules}
 use Rattle.rules.proofs.Tests.{passed}
 use Rattle.ledger.proofs.Laws.{until-small}
 use Rattle.steps.specs.declared.Team.{Team}
-use Rattle.steps.specs.declared.Stepped.{Stepped}
-use Rattle.steps.specs.declared.Turned.{Turned}
 use Rattle.steps.specs.Places.{scan}
 use Rattle.steps.specs.Records.{maxNode, isStopped}
-use Rattle.steps.specs.Step.{resting, asking, stepFrom, stepAt, unfit, soloTests, soloCode}
-use Rattle.steps.specs.Turn.{asks, moves, still, turning, turned}
+use Rattle.steps.specs.Step.{resting, stepFrom, stepAt, unfit, soloTests, soloCode}
+use Rattle.steps.specs.Turn.{asks, moves, still, turned}
 use Rattle.places.specs.Ready.{Limited, Ready}
 
 -- ---- the limits of what a team sees

@@ -1,2 +1,3 @@
 -- What the code of a step needs of the definitions.
 pub mod Laws
+pub mod InRuns

@@ -1,8 +1,6 @@
 -- Nowhere, or one before its number.
 use borrow.Author.Needs.{needs}
-use mathlib.Core.Path.{sym, ap, _∙_}
 use borrow.Author.Tests.{lt-ltb, le-ltb}
-use Rattle.numbers.specs.Fields.{within, natOf}
 use Rattle.numbers.proofs.Signed.{held}
 use Rattle.rounds.specs.Lent.{slotIn}
 use Rattle.rounds.proofs.slot.Statement.{statement}

@@ -1,5 +1,5 @@
 -- One request, that of the record's place, and none where it has stopped.
-use mathlib.Core.Path.{_≡_, sym, _∙_}
+use mathlib.Core.Path.{sym, _∙_}
 use Rattle.nodes.proofs.Laws.{natural-held}
 use Rattle.steps.specs.Records.{maxNode}
 use Rattle.teams.proofs.Laws.{left-small, turn-rests, turn-made}
