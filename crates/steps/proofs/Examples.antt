@@ -1,0 +1,31 @@
+-- A run to its end, so that what is said of runs in which every team has stopped is said of some; and a step that lends too few records.
+use mathlib.Core.Path.{_≡_, refl}
+use mathlib.Core.List.{List, [], _∷_}
+use lib.IntN.{ℤ, pos}
+use Rattle.rules.specs.declared.Opening.{Opening}
+use Rattle.rules.specs.Limits.{opens}
+use Rattle.rules.specs.Opening.{opened}
+use Rattle.rules.specs.Refusals.{ownCode, advanceCode, kindCode, refusal}
+use Rattle.rules.specs.Requests.{owning, batchEnd, advancing, looking, granted, decided, view, changed, answered, requested}
+use Rattle.rules.specs.States.{stateOf, stolenOf}
+use Rattle.rules.specs.Table.{at, put, grown, sumBy, stolenIn}
+use Rattle.rules.specs.WellFormed.{upTo, aloneRule, childRule, nodeRule, leftIs, pairRule, unusedRule, wellFormed}
+use Rattle.steps.specs.Places.{scan, seekMoves, takeMoves, workMoves, claimMoves}
+use Rattle.steps.specs.Run.{begun, stepTeam, runTeams, stoppedTo, stoppedTeams}
+use Rattle.steps.specs.Step.{stepFrom, lentCode, stepUnless, lentStep, recordsAfter}
+
+-- one sheet, one team
+abbrev small : Opening
+small = record { start = pos 0; until = pos 1; teams = pos 1; cap = pos 1; nodes = pos 1 }
+
+-- seek, take, work, claim, work, seek twice: then there is no node, and the team stops
+abbrev seven : List ℤ
+seven = pos 1 ∷ pos 1 ∷ pos 1 ∷ pos 1 ∷ pos 1 ∷ pos 1 ∷ pos 1 ∷ []
+
+ends : stoppedTeams (runTeams (λ t. scan) (pos 1) (begun small 1) seven) ≡ 1
+unfolding runTeams stepTeam lentStep recordsAfter lentCode stepUnless stepFrom requested answered changed view decided granted looking owning advancing batchEnd refusal kindCode ownCode advanceCode stateOf stolenOf at put grown sumBy stolenIn upTo aloneRule childRule nodeRule leftIs pairRule unusedRule wellFormed opens opened seekMoves takeMoves workMoves claimMoves stoppedTo
+ends = refl
+
+too-few : lentCode (begun small 0 .ledger) (pos 1) (pos 1) [] ≡ 18
+unfolding lentCode stateOf stolenOf at sumBy stolenIn upTo aloneRule childRule nodeRule leftIs pairRule unusedRule wellFormed opens opened
+too-few = refl

@@ -1,0 +1,47 @@
+// Ledgers of two teams to step on. The root has 0..8; team 1 takes it, and team 2 steals from it.
+use rules::Ledger;
+use rules::Opening;
+use rules::Request;
+
+pub fn opened(nodes: i32) -> Ledger {
+    let o = ledger::open(Opening {
+        start: 0,
+        until: 8,
+        teams: 2,
+        cap: 4,
+        nodes: nodes,
+    });
+    o.ledger
+}
+
+fn after(l: Ledger, kind: i32, team: i32, node: i32, position: i32, amount: i32) -> Ledger {
+    let r = Request {
+        kind: kind,
+        team: team,
+        node: node,
+        position: position,
+        amount: amount,
+    };
+    let x = ledger::request(l, r);
+    x.ledger
+}
+
+// Team 1 owns the root.
+pub fn owned(nodes: i32) -> Ledger {
+    after(opened(nodes), 1, 1, 1, 0, 0)
+}
+
+// And has claimed this many of its sheets.
+pub fn claimed(nodes: i32, sheets: i32) -> Ledger {
+    after(owned(nodes), 2, 1, 1, 0, sheets)
+}
+
+// Team 2 has marked it at 2.
+pub fn stolen() -> Ledger {
+    after(claimed(7, 2), 3, 2, 1, 2, 0)
+}
+
+// And it is split in 2..5 and 5..8.
+pub fn expanded() -> Ledger {
+    after(stolen(), 4, 2, 1, 0, 0)
+}
