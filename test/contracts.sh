@@ -1,9 +1,11 @@
 #!/bin/bash
-# No function that another crate may call asks anything of its caller, and each says what it returns: a public function has no `requires`
-# and has an `ensures`. Programs have no callers.
+# No function that another crate may call asks anything of its caller, and each says what it returns: a public function of a library has no
+# `requires` and has an `ensures`.
 set -u
 cd "$(dirname "$0")/.." || exit 2
 
+libraries=$(for lib in crates/*/src/lib.rt; do ls "${lib%lib.rt}"*.rt; done)
+# shellcheck disable=SC2086
 bad=$(awk '
     function close_fn() { if (name != "" && (asks || !says)) print file ": " name (asks ? " has a requires" : " has no ensures"); name = "" }
     FNR == 1 { close_fn(); file = FILENAME }
@@ -11,5 +13,5 @@ bad=$(awk '
     name != "" && /requires/ { asks = 1 }
     name != "" && /ensures/ { says = 1 }
     /^}|^    }$/ { close_fn() }
-    END { close_fn() }' crates/*/src/lib.rt crates/*/src/[a-z]*.rt 2>/dev/null | sort -u)
+    END { close_fn() }' $libraries | sort -u)
 [ -z "$bad" ] || { echo "$bad"; exit 1; }

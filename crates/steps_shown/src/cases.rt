@@ -51,7 +51,7 @@ fn tried(l: Ledger, team: i32, cap: i32, t: Team) {
 }
 
 // Code 4, AVAILABLE, OWNED by another with two or more and with one left, OWNED by the team itself, COMPLETED, STOLEN, EXPANDED.
-pub fn seek() {
+pub(crate) fn seek() {
     show::words(b"seek\n");
     tried(ledgers::opened(7), 1, 4, at(Place::Seek, 2));
     tried(ledgers::opened(7), 1, 4, at(Place::Seek, 1));
@@ -64,14 +64,14 @@ pub fn seek() {
 }
 
 // Granted, and refused: the node has an owner.
-pub fn take() {
+pub(crate) fn take() {
     show::words(b"take\n");
     tried(ledgers::opened(7), 1, 4, at(Place::Take, 1));
     tried(ledgers::owned(7), 2, 4, at(Place::Take, 1));
 }
 
 // OWNED by this team, STOLEN, EXPANDED, OWNED by another, COMPLETED, AVAILABLE, no node.
-pub fn work() {
+pub(crate) fn work() {
     show::words(b"work\n");
     tried(ledgers::claimed(7, 3), 1, 4, at(Place::Work, 1));
     tried(ledgers::stolen(), 1, 4, at(Place::Work, 1));
@@ -83,7 +83,7 @@ pub fn work() {
 }
 
 // Granted with the size doubled, at the cap and past its half; code 9; another position; another owner.
-pub fn claim() {
+pub(crate) fn claim() {
     show::words(b"claim\n");
     tried(ledgers::owned(7), 1, 4, sized(Place::Claim, 1));
     tried(ledgers::owned(7), 1, 4, sized(Place::Claim, 2));
@@ -95,7 +95,7 @@ pub fn claim() {
 }
 
 // Granted, code 14, another position.
-pub fn mark() {
+pub(crate) fn mark() {
     show::words(b"mark\n");
     tried(ledgers::claimed(7, 2), 2, 4, at(Place::Mark, 1));
     tried(ledgers::claimed(2, 2), 2, 4, at(Place::Mark, 1));
@@ -103,7 +103,7 @@ pub fn mark() {
 }
 
 // Granted on either side, code 16 on either side, code 15.
-pub fn split() {
+pub(crate) fn split() {
     show::words(b"split\n");
     tried(ledgers::stolen(), 1, 4, facing(Place::Split, 1, Side::Left));
     tried(
@@ -133,7 +133,7 @@ pub fn split() {
 }
 
 // EXPANDED on either side, and any other state; and a team that has stopped.
-pub fn join() {
+pub(crate) fn join() {
     show::words(b"join\n");
     tried(
         ledgers::expanded(),
@@ -153,7 +153,7 @@ pub fn join() {
 }
 
 // The largest node, which no table has; the largest size at the largest cap, which 2 x size would pass; the least cap.
-pub fn limits() {
+pub(crate) fn limits() {
     show::words(b"limits\n");
     tried(ledgers::opened(7), 1, 4096, at(Place::Seek, 1024));
     tried(ledgers::owned(7), 1, 4096, sized(Place::Claim, 4096));
@@ -164,7 +164,7 @@ pub fn limits() {
 }
 
 // 1 before 3 before 19; 3 by numbers on either side; 19 by the cap, the node and the size, for a stopped record too.
-pub fn refused() {
+pub(crate) fn refused() {
     show::words(b"refused\n");
     let none = ledgers::opened(0);
     tried(none, 0, 0, at(Place::Seek, 0));

@@ -3,7 +3,7 @@ use rules::Ledger;
 use rules::Opening;
 use rules::Request;
 
-pub fn opened(nodes: i32) -> Ledger {
+pub(crate) fn opened(nodes: i32) -> Ledger {
     let o = ledger::open(Opening {
         start: 0,
         until: 8,
@@ -27,21 +27,21 @@ fn after(l: Ledger, kind: i32, team: i32, node: i32, position: i32, amount: i32)
 }
 
 // Team 1 owns the root.
-pub fn owned(nodes: i32) -> Ledger {
+pub(crate) fn owned(nodes: i32) -> Ledger {
     after(opened(nodes), 1, 1, 1, 0, 0)
 }
 
 // And has claimed this many of its sheets.
-pub fn claimed(nodes: i32, sheets: i32) -> Ledger {
+pub(crate) fn claimed(nodes: i32, sheets: i32) -> Ledger {
     after(owned(nodes), 2, 1, 1, 0, sheets)
 }
 
 // Team 2 has marked it at 2.
-pub fn stolen() -> Ledger {
+pub(crate) fn stolen() -> Ledger {
     after(claimed(7, 2), 3, 2, 1, 2, 0)
 }
 
 // And it is split in 2..5 and 5..8.
-pub fn expanded() -> Ledger {
+pub(crate) fn expanded() -> Ledger {
     after(stolen(), 4, 2, 1, 0, 0)
 }

@@ -42,7 +42,7 @@ fn side(d: Side) {
     ;
 }
 
-pub fn record(t: Team) {
+pub(crate) fn record(t: Team) {
     let p = t.place;
     let d = t.side;
     place(p);
@@ -52,7 +52,7 @@ pub fn record(t: Team) {
     number(t.size);
 }
 
-pub fn asked(team: i32, kind: u32, node: u32, a: Answer) {
+pub(crate) fn asked(team: i32, kind: u32, node: u32, a: Answer) {
     io::write_all(STDOUT_FILENO, b"team");
     signed(team);
     io::write_all(STDOUT_FILENO, b" asks");
@@ -67,19 +67,19 @@ pub fn asked(team: i32, kind: u32, node: u32, a: Answer) {
     number(a.left);
 }
 
-pub fn capped(cap: i32) {
+pub(crate) fn capped(cap: i32) {
     io::write_all(STDOUT_FILENO, b" cap");
     signed(cap);
 }
 
-pub fn bar() {
+pub(crate) fn bar() {
     io::write_all(STDOUT_FILENO, b" |");
 }
 
-pub fn words(text: &[u8]) {
+pub(crate) fn words(text: &[u8]) {
     io::write_all(STDOUT_FILENO, text);
 }
 
-pub fn end() {
+pub(crate) fn end() {
     io::write_all(STDOUT_FILENO, b"\n");
 }
