@@ -137,7 +137,8 @@ pub fn parted_at(x: Node, left: u32) -> Node
 pub fn left_part(x: Node) -> Node
     ensures { λ r. ⌜ r ≡ leftPart x ⌝ }
 {
-    fresh_node(position_of(x), middle_of(x))
+    let p = position_of(x);
+    fresh_node(p, middle_of(x))
 }
 
 pub fn right_part(x: Node) -> Node

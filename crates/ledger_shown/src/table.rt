@@ -1,0 +1,99 @@
+// The table of moves, and what one node decides by itself.
+use crate::ask;
+use crate::print;
+use rules::Change;
+use rules::Node;
+use rules::View;
+
+// The states to which own, advance, mark, expand and look may lead from a state, as the sum of 2 to the power of each.
+fn row(state: u32) {
+    print::text(b"moves from");
+    print::number(state);
+    print::text(b":");
+    print::number(nodes::moves::moves_of(state, 1));
+    print::number(nodes::moves::moves_of(state, 2));
+    print::number(nodes::moves::moves_of(state, 3));
+    print::number(nodes::moves::moves_of(state, 4));
+    print::number(nodes::moves::moves_of(state, 5));
+    print::text(b"\n");
+}
+
+// What is no state or no kind has no move.
+fn outside() {
+    print::text(b"no state, no kind:");
+    print::number(nodes::moves::moves_of(0, 1));
+    print::number(nodes::moves::moves_of(6, 1));
+    print::number(nodes::moves::moves_of(1, 0));
+    print::number(nodes::moves::moves_of(1, 6));
+    print::number(nodes::moves::moves_of(4294967295, 4294967295));
+    print::text(b"\n");
+}
+
+fn change(c: Change) {
+    match c {
+        Change::Keep => print::text(b" keep"),
+        Change::Store(x) => {
+            print::text(b" store");
+            print::node(x);
+        }
+        Change::Split {
+            parent,
+            pair,
+            left,
+            right,
+        } => {
+            print::text(b" split");
+            print::node(parent);
+            print::number(pair);
+            print::node(left);
+            print::node(right);
+        }
+    }
+}
+
+// Expand, asked of one node in a table of so many nodes, with one STOLEN node.
+fn expand(nodes: u32, used: u32, x: Node) {
+    let v = View {
+        teams: 2,
+        room: nodes,
+        used: used,
+        stolen: 1,
+        pair: 4,
+        node: x,
+    };
+    let o = nodes::decide(v, ask::of(ask::EXPAND, 2, 1, 0, 0));
+    let a = o.answer;
+    let c = o.change;
+    print::text(b"expand with nodes");
+    print::number(nodes);
+    print::text(b", used");
+    print::number(used);
+    print::text(b",");
+    print::node(x);
+    print::text(b": answer");
+    print::answer(a);
+    print::text(b",");
+    change(c);
+    print::text(b"\n");
+}
+
+// A well-formed ledger keeps two slots for each STOLEN node and so never answers 17: one node is asked by itself here. The two slots suffice;
+// 16 comes before 17, and 15 before both.
+fn expands() {
+    expand(3, 3, ask::node(0, 8, -4, 1, 0));
+    expand(4, 3, ask::node(0, 8, -4, 1, 0));
+    expand(5, 3, ask::node(0, 8, -4, 1, 0));
+    expand(4, 3, ask::node(0, 8, -4, 1, 2));
+    expand(4, 3, ask::node(0, 8, 3, 1, 0));
+    expand(4, 3, ask::node(0, 8, 3, 1, 2));
+}
+
+pub(crate) fn all() {
+    row(1);
+    row(2);
+    row(3);
+    row(4);
+    row(5);
+    outside();
+    expands();
+}
