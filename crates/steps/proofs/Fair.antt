@@ -1,0 +1,285 @@
+-- Each place's step leaves every node looked after.
+use mathlib.Core.Path.{_≡_, refl, ap, _∙_}
+use mathlib.Core.Logic.{_≢_}
+use mathlib.Core.Bool.{Bool, true, false, cond}
+use Prim.Native.Nat.{ℕ, _+_, _≤_, _<_}
+use native.Mathlib.Omega.{arith}
+use native.Mathlib.Decide.{ℕ-discrete}
+use lib.Dec.{eqb}
+use lib.IntN.{ℤ, pos, negsuc}
+use lib.ListN.{length}
+use borrow.Author.Tests.{eqb-true, eq-eqb, ne-eqb}
+use Rattle.rules.specs.declared.Node.{Node}
+use Rattle.rules.specs.declared.Ledger.{Ledger}
+use Rattle.rules.specs.declared.Request.{Request}
+use Rattle.rules.specs.declared.Answer.{Answer}
+use Rattle.rules.specs.declared.Answered.{Answered}
+use Rattle.rules.specs.Nodes.{owned, moved, parted, marked, positionOf, leftPart, rightPart}
+use Rattle.rules.specs.States.{AVAILABLE, OWNED, STOLEN, EXPANDED, stateOf}
+use Rattle.rules.specs.Table.{at, put}
+use Rattle.rules.specs.Requests.{refused, ranged, batchEnd, requested}
+use Rattle.rules.proofs.Granted.{after}
+use Rattle.rules.proofs.Nodes.{at-same}
+use Rattle.rules.proofs.Record.{WF}
+use Rattle.rules.proofs.States.{never, is-owned, is-expanded, owned-is, stolen-is, running}
+use Rattle.steps.specs.declared.Side.{Side}
+use Rattle.steps.specs.declared.Side.the-variants.{Left, Right}
+use Rattle.steps.specs.declared.Team.{Team}
+use Rattle.steps.specs.Asks.{own, advance, mark, expand, look}
+use Rattle.steps.specs.Records.{sized, split, work, childOn}
+use Rattle.steps.specs.Places.{Line, again, grownSize, takeMoves, workMoves, claimMoves, splitMoves, joinMoves}
+use Rattle.steps.proofs.Stages.{Stage, hunt, taking, busy, parting, joining, stageOf, child, Heads, works, parts, joins, takes, Open, unmade, untaken, All, Moved, Duty, duty-same, duty-hunt, duty-taking, duty-busy, duty-parting, duty-joining}
+use Rattle.steps.proofs.Changes.{Older, all-keep, all-put, older-put, tended-shut, all-split, older-split}
+use Rattle.steps.proofs.Asked.{InUse, Takes, Claims, Marks, Splits, by-own, by-advance, by-mark, by-expand, by-look}
+
+-- from the ledger l and a team t at the stage s to l′ and s′: every node stays looked after, whatever the other teams do
+pub record Fair (l : Ledger) (t : ℕ) (s : Stage) (l′ : Ledger) (s′ : Stage) : Type 0 where
+  pub older : Older l l′
+  pub keeps : (S S′ : ℕ → Stage) → S t ≡ s → Moved S S′ t s′ → All l S → All l′ S′
+
+-- a step that makes the request q, and goes where the answer sends it
+abbrev pub Asks : Ledger → ℕ → Stage → Request → (Answer → Team) → Type 0
+Asks l t s q next = Fair l t s (requested l q .ledger) (stageOf (next (requested l q .answer)))
+
+-- what is so after an answer
+abbrev Then : Ledger → ℕ → Stage → (Answer → Team) → Answered → Type 0
+Then l t s next u = Fair l t s (u .ledger) (stageOf (next (u .answer)))
+
+-- a child is in use
+pub is-child : (l : Ledger) → WF l → (m : ℕ) → 1 ≤ m → m ≤ l .used → 0 < at l m .left → (d : Side) → InUse l (child (at l m) d)
+is-child l w m p q h Left = let k = w .pair m p q h .inside in record { low = omega arith; high = omega arith }
+is-child l w m p q h Right = let k = w .pair m p q h .inside in record { low = omega arith; high = omega arith }
+
+-- a node that is not marked has no children
+pub leaf : (l : Ledger) → WF l → (n : ℕ) → InUse l n → marked (at l n) ≡ false → at l n .left ≡ 0
+leaf l w n u f = go (ℕ-discrete (at l n .left) 0)
+  where
+    go : Dec (at l n .left ≡ 0) → at l n .left ≡ 0
+    go (yes e) = e
+    go (no ne) = let m = w .pair n (u .low) (u .high) (omega arith) .mark in never (cc)
+
+-- what a search asks at a place, and what it owes for a mark
+pub data Hunts (line : Line) (t cap : ℕ) (r : Team) : Type 0 where
+  looks : (n : ℕ) → line .asks t r ≡ look t n → Hunts line t cap r
+  marks : (n : ℕ) (p : ℤ) → line .asks t r ≡ mark t n p
+      → ((a : Answer) → a .code ≡ 0 → stageOf (line .moves t cap r a) ≡ parting n Right)
+      → Hunts line t cap r
+
+module _ (l : Ledger) (w : WF l) (t : ℕ) (tl : 1 ≤ t) (th : t ≤ l .teams) where
+  slot : (n : ℕ) → InUse l n → n ≤ length (l .nodes)
+  slot n u = omega (arith, u .high, w .slots, w .used-room, w .room-high)
+
+  -- the ledger stays
+  fair-keep : (s s′ : Stage) → ((n : ℕ) → 1 ≤ n → n ≤ l .used → Duty l t s s′ n) → Fair l t s l s′
+  fair-keep s s′ duty =
+      record {
+        older = λ c p q e. e;
+        keeps = λ S S′ st mv all. all-keep l w S S′ t s s′ st mv all duty;
+      }
+
+  pub fair-stopped : (s : Stage) → Fair l t s l s
+  fair-stopped s = fair-keep s s (λ n p q. duty-same l t n s s refl)
+
+  -- what a look tells of a node in use
+  record Seen (n : ℕ) (a : Answer) : Type 0 where
+    state : a .state ≡ stateOf (at l n)
+    owner : a .owner ≡ at l n .owner
+    left : a .left ≡ at l n .left
+
+  -- a look changes nothing
+  fair-look : (s : Stage) (n : ℕ) (next : Answer → Team)
+      → ((a : Answer) → (InUse l n → Seen n a) → (m : ℕ) → 1 ≤ m → m ≤ l .used → Duty l t s (stageOf (next a)) m)
+      → Asks l t s (look t n) next
+  fair-look s n next duty =
+      by-look
+      l
+      w
+      t
+      n
+      tl
+      th
+      (Then l t s next)
+      (λ u. fair-keep s _ (duty _ (λ v. record { state = refl; owner = refl; left = refl })))
+      (λ none. fair-keep s _ (duty _ (λ v. absurd (none v))))
+
+  -- ---- take
+
+  pub fair-take : (r : Team) → Asks l t (taking (r .node)) (own t (r .node)) (takeMoves r)
+  unfolding takeMoves
+  fair-take r = by-own l w t n tl th (Then l t (taking n) (takeMoves r)) took lost
+    where
+      n : ℕ
+      n = r .node
+
+      y : Node
+      y = owned (at l n) t
+
+      took : Takes l w t n tl th → Fair l t (taking n) (put l n y) (busy n)
+      took g =
+          let u = g .here in
+          let st : stateOf y ≡ OWNED = owned-is y (record { going = g .was .going; plain = g .was .plain; somebody = omega arith }) in
+          let same = at-same l n y (u .low) (slot n u) in
+          record {
+            older = older-put l n y (u .low) (u .high) (slot n u) (omega arith);
+            keeps =
+                λ S S′ a mv all. all-put l w S S′ t (taking n) (busy n) a mv all n y (u .low) (u .high) (slot n u) (omega arith) (λ m p q ne. duty-taking (put l n y) t m (busy n) n (λ d h f. rw same (omega arith))) (tended-shut (put l n y) S′ n (rw same (omega arith)) (rw same (omega arith)) (λ z. rw same (mv .here)));
+          }
+
+      lost : (c : ℕ) → c ≢ 0 → (InUse l n → stateOf (at l n) ≢ AVAILABLE)
+          → Fair l t (taking n) l (stageOf (cond (eqb c 0) (work (sized r 1) n) (again r)))
+      lost c ne gone = rw (ne-eqb c 0 ne) (fair-keep (taking n) hunt (λ m p q. duty-taking l t m hunt n (λ d h f. gone (rw f (is-child l w m p q h d)))))
+
+  -- afterwards the node is not AVAILABLE
+  pub taken : (n : ℕ) → InUse l n → stateOf (at (requested l (own t n) .ledger) n) ≢ AVAILABLE
+  taken n u = by-own l w t n tl th (λ v. stateOf (at (v .ledger) n) ≢ AVAILABLE) took (λ c ne gone. gone u)
+    where
+      took : Takes l w t n tl th → stateOf (at (put l n (owned (at l n) t)) n) ≢ AVAILABLE
+      took g =
+          let y = owned (at l n) t in
+          let st : stateOf y ≡ OWNED = owned-is y (record { going = g .was .going; plain = g .was .plain; somebody = omega arith }) in
+          rw (at-same l n y (u .low) (slot n u)) (omega arith)
+
+  -- ---- work
+
+  pub fair-work : (r : Team) → Asks l t (busy (r .node)) (look t (r .node)) (workMoves t r)
+  unfolding workMoves
+  fair-work r =
+      fair-look (busy n) n (workMoves t r) (λ a saw m p q.
+      duty-busy l t m (stageOf (workMoves t r a)) n (λ e. mine a (saw (here e p q))) (λ e. heading a (saw (here e p q))))
+    where
+      n : ℕ
+      n = r .node
+
+      here : {m : ℕ} → m ≡ n → 1 ≤ m → m ≤ l .used → InUse l n
+      here e p q = record { low = omega arith; high = omega arith }
+
+      mine : (a : Answer) → Seen n a → stateOf (at l n) ≡ OWNED → at l n .owner ≡ t → stageOf (workMoves t r a) ≡ busy n
+      mine a s e f = rw (s .state ∙ e, eq-eqb (a .owner) t (s .owner ∙ f))
+
+      heading : (a : Answer) → Seen n a → Open l n Left → Heads n (at l n) Left (stageOf (workMoves t r a))
+      heading a s (unmade e) = parts (rw (s .state ∙ e))
+      heading a s (untaken e f) = takes (is-expanded (at l n) e .parent) (rw (s .state ∙ e, s .left))
+
+  -- ---- claim
+
+  pub fair-claim : (cap : ℕ) (r : Team)
+      → Asks l t (busy (r .node)) (advance t (r .node) (r .position) (r .size)) (claimMoves cap r)
+  unfolding claimMoves
+  fair-claim cap r = by-advance l w t n tl th (r .position) (r .size) (Then l t (busy n) (claimMoves cap r)) took lost
+    where
+      n : ℕ
+      n = r .node
+
+      q : Request
+      q = advance t n (r .position) (r .size)
+
+      y : Node
+      y = moved (at l n) (pos (batchEnd (at l n) q))
+
+      took : Claims l w t n tl th q → Fair l t (busy n) (put l n y) (busy n)
+      took g =
+          let u = g .here in
+          let mine = g .facts .mine in
+          let st = running y refl (omega arith) in
+          let same = at-same l n y (u .low) (slot n u) in
+          record {
+            older = older-put l n y (u .low) (u .high) (slot n u) (st .0);
+            keeps =
+                λ S S′ a mv all. all-put l w S S′ t (busy n) (busy n) a mv all n y (u .low) (u .high) (slot n u) (st .0) (λ m p h ne. duty-same (put l n y) t m (busy n) (busy n) refl) (tended-shut (put l n y) S′ n (rw same (st .1)) (rw same (st .2)) (λ z. rw same (ap S′ mine ∙ mv .here)));
+          }
+
+      -- code 9: the node is not OWNED any more
+      marked-now : (c : ℕ) → c ≡ 9 → (c ≡ 9 → InUse l n → marked (at l n) ≡ true) → (m : ℕ) → 1 ≤ m → m ≤ l .used
+          → Duty l t (busy n) (parting n Left) m
+      marked-now c e told m p q =
+          duty-busy l t m (parting n Left) n (λ f z o. clash (told e (record { low = omega arith; high = omega arith })) z) (λ f o. parts refl)
+        where
+          clash : marked (at l n) ≡ true → stateOf (at l n) ≡ OWNED → parting n Left ≡ busy n
+          clash m z = let p = is-owned (at l n) z .plain in never (cc)
+
+      lost : (c : ℕ) → c ≢ 0 → (c ≡ 9 → InUse l n → marked (at l n) ≡ true)
+          → Fair l t (busy n) l (stageOf (cond (eqb c 0) (work (sized r (grownSize cap r)) n) (cond (eqb c 9) (split r n Left) (work r n))))
+      lost c ne told = rw (ne-eqb c 0 ne) (by-nine (eqb c 9) refl)
+        where
+          by-nine : (b : Bool) → eqb c 9 ≡ b → Fair l t (busy n) l (stageOf (cond b (split r n Left) (work r n)))
+          by-nine true e = fair-keep (busy n) (parting n Left) (marked-now c (eqb-true c 9 e) told)
+          by-nine false e = fair-keep (busy n) (busy n) (λ m a b. duty-same l t m (busy n) (busy n) refl)
+
+  -- ---- split
+
+  pub fair-split : (r : Team) → Asks l t (parting (r .node) (r .side)) (expand t (r .node)) (splitMoves r)
+  unfolding splitMoves
+  fair-split r = by-expand l w t n tl th (Then l t (parting n (r .side)) (splitMoves r)) took lost
+    where
+      n : ℕ
+      n = r .node
+
+      took : (g : Splits l w t n tl th)
+          → Fair l t (parting n (r .side)) (after l n (parted (at l n) (l .used + 1)) (leftPart (at l n)) (rightPart (at l n))) (taking (childOn (r .side) (l .used + 1)))
+      took g =
+          let u = g .here in
+          record {
+            older = older-split l w n (u .low) (u .high) (g .was) (g .fits);
+            keeps =
+                λ S S′ a mv all. all-split l w n (u .low) (u .high) (g .was) (g .fits) S S′ t (r .side) a mv all (λ m p h ne. duty-parting _ t m _ n (r .side) (λ f o. absurd (ne f)));
+          }
+
+      heading : (c : ℕ) → c ≢ 0 → (InUse l n → stateOf (at l n) ≢ STOLEN) → (InUse l n → stateOf (at l n) ≡ EXPANDED → c ≡ 16)
+          → InUse l n → Open l n (r .side)
+          → Heads n (at l n) (r .side) (stageOf (splitMoves r (refused c)))
+      heading c ne a b u (unmade z) = absurd (a u z)
+      heading c ne a b u (untaken z f) = joins (is-expanded (at l n) z .parent) (rw (b u z))
+
+      lost : (c : ℕ) → c ≢ 0 → (InUse l n → stateOf (at l n) ≢ STOLEN) → (InUse l n → stateOf (at l n) ≡ EXPANDED → c ≡ 16)
+          → Fair l t (parting n (r .side)) l (stageOf (splitMoves r (refused c)))
+      lost c ne a b =
+          fair-keep (parting n (r .side)) _ (λ m p q.
+          duty-parting l t m _ n (r .side) (λ f o. heading c ne a b (record { low = omega arith; high = omega arith }) o))
+
+  -- ---- join
+
+  pub fair-join : (r : Team) → Asks l t (joining (r .node) (r .side)) (look t (r .node)) (joinMoves r)
+  unfolding joinMoves
+  fair-join r =
+      fair-look (joining n (r .side)) n (joinMoves r) (λ a saw m p q.
+      duty-joining l t m (stageOf (joinMoves r a)) n (r .side) (λ e. heading a (saw (record { low = omega arith; high = omega arith }))))
+    where
+      n : ℕ
+      n = r .node
+
+      heading : (a : Answer) → Seen n a → stateOf (at l n) ≡ EXPANDED → Heads n (at l n) (r .side) (stageOf (joinMoves r a))
+      heading a s e = takes (is-expanded (at l n) e .parent) (rw (s .state ∙ e, s .left))
+
+  -- ---- search
+
+  fair-mark : (n : ℕ) (p : ℤ) (next : Answer → Team) → ((a : Answer) → a .code ≡ 0 → stageOf (next a) ≡ parting n Right)
+      → Asks l t hunt (mark t n p) next
+  fair-mark n p next owes = by-mark l w t n tl th p (Then l t hunt next) took (λ c ne told. fair-keep hunt _ (λ m a b. duty-hunt l t m _))
+    where
+      y : Node
+      y = moved (at l n) (negsuc (positionOf (at l n)))
+
+      high-put : t ≤ put l n y .teams
+      high-put = unfold put in th
+
+      took : Marks l w t n tl th (mark t n p)
+          → Fair l t hunt (put l n y) (stageOf (next (ranged (positionOf (at l n)) (at l n .until))))
+      took g =
+          let u = g .here in
+          let f = g .facts in
+          let st : stateOf y ≡ STOLEN = stolen-is y (record { mark = refl; leaf = leaf l w n u (f .here .plain) }) in
+          let was : stateOf (at l n) ≡ OWNED = owned-is (at l n) (record { going = f .here .going; plain = f .here .plain; somebody = f .somebody }) in
+          let same = at-same l n y (u .low) (slot n u) in
+          record {
+            older = older-put l n y (u .low) (u .high) (slot n u) (omega arith);
+            keeps =
+                λ S S′ a mv all. all-put l w S S′ t hunt _ a mv all n y (u .low) (u .high) (slot n u) (omega arith) (λ m p h ne. duty-hunt (put l n y) t m _) (record {
+                  mine = λ z. absurd (let k : stateOf y ≡ OWNED = rw same at z in omega arith);
+                  left = λ o. rw same (works refl (mv .there (at l n .owner) (f .other) ∙ all .tended n (u .low) (u .high) .mine was));
+                  right = λ o. record { team = t; low = tl; high = high-put; heads = rw same (parts (mv .here ∙ owes _ refl)) };
+                });
+          }
+
+  pub fair-hunt : (line : Line) (cap : ℕ) (r : Team) → Hunts line t cap r → Asks l t hunt (line .asks t r) (line .moves t cap r)
+  fair-hunt line cap r (looks n e) = rw e (fair-look hunt n (line .moves t cap r) (λ a saw m p q. duty-hunt l t m _))
+  fair-hunt line cap r (marks n p e owes) = rw e (fair-mark n p (line .moves t cap r) owes)
