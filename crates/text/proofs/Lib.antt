@@ -1,0 +1,4 @@
+pub mod Scanning
+pub mod Values
+pub mod Passing
+pub mod Judging

@@ -1,0 +1,54 @@
+-- "Each answers code and LINE (both 0 when granted), the header's numbers and, for the schedule, the count of its numbers; refused, these
+-- numbers are 0 and the area stays."
+use Prim.Native.Nat.{ℕ, _-_}
+use mathlib.Core.Bool.{Bool, cond}
+use mathlib.Core.List.{List, [], _∷_, _++_, map}
+use lib.IntN.{ℤ, pos}
+use lib.ListN.{length, drop}
+use Rattle.numbers.specs.Progress.{signed}
+use Rattle.rules.specs.declared.Opening.{Opening}
+use Rattle.text.specs.declared.Verdict.{Verdict}
+use Rattle.text.specs.declared.Header.{Header}
+use Rattle.text.specs.declared.Schedule.{Schedule}
+use Rattle.text.specs.Marks.{Mark, marks}
+use Rattle.text.specs.Lines.{fromHead, leftAfter}
+use Rattle.text.specs.Judgement.{isGranted, headOf, openingOf, headerVerdict, scheduleNumbers, scheduleVerdict}
+
+abbrev pub noOpening : Opening
+noOpening = record { start = pos 0; until = pos 0; teams = pos 0; cap = pos 0; nodes = pos 0 }
+
+-- the numbers of the header, where the text was granted
+abbrev pub opensAs : Verdict → List Mark → Opening
+opensAs v ms = cond (isGranted v) (openingOf (headOf ms)) noOpening
+
+-- the answer to a text of n bytes with these marks
+abbrev pub headerBy : Verdict → List Mark → Header
+headerBy v ms = record { code = v .code; line = v .line; opening = opensAs v ms }
+
+unfoldable pub headerOf : List ℕ → Header
+headerOf text = headerBy (headerVerdict (length text) (marks text)) (marks text)
+
+-- "Reading the header gives back the rest of the caller's text itself, from the byte after the header's line end; an empty part if there is
+-- none or the text is refused."
+unfoldable pub restPlace : List ℕ → ℕ
+restPlace text =
+    cond (isGranted (headerVerdict (length text) (marks text))) (length text - leftAfter (fromHead (marks text))) (length text)
+
+unfoldable pub restOf : List ℕ → List ℕ
+restOf text = drop (restPlace text) text
+
+abbrev pub scheduleBy : Verdict → List Mark → Schedule
+scheduleBy v ms =
+    record { code = v .code; line = v .line; opening = opensAs v ms; count = cond (isGranted v) (length (scheduleNumbers ms)) 0 }
+
+unfoldable pub scheduleOf : ℕ → List ℕ → Schedule
+scheduleOf room text = scheduleBy (scheduleVerdict room (length text) (marks text)) (marks text)
+
+-- the area with the numbers at its front
+abbrev pub filled : List ℕ → List ℤ → List ℤ
+filled ns area = map signed ns ++ drop (length ns) area
+
+-- the area after the schedule was read
+unfoldable pub areaOf : List ℕ → List ℤ → List ℤ
+areaOf text area =
+    cond (isGranted (scheduleVerdict (length area) (length text) (marks text))) (filled (scheduleNumbers (marks text)) area) area
