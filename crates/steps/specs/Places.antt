@@ -47,17 +47,17 @@ takeChild r a = take r (childOn (r .side) (a .left))
 
 -- ---- seek and mark, by the scan: program 1
 
--- "seek(n): look. Code 4: stopped. AVAILABLE: take(n). OWNED by another with two or more left: mark(n, position). STOLEN: split(n, right).
--- Else seek(n+1)."
-unfoldable pub seekMoves : ℕ → Team → Answer → Team
-seekMoves t r a =
+-- of a node in use: "AVAILABLE: take(n). OWNED by another with two or more left: mark(n, position). STOLEN: split(n, right). Else seek(n+1)."
+abbrev pub sightMoves : ℕ → Team → Answer → Team
+sightMoves t r a =
     cond
-    (hasCode 4 a)
-    (stop r)
-    (cond
     (sees AVAILABLE a)
     (take r (r .node))
-    (cond (stealable t a) (mark r (r .node) (a .«from»)) (cond (sees STOLEN a) (split r (r .node) Right) (onward r))))
+    (cond (stealable t a) (mark r (r .node) (a .«from»)) (cond (sees STOLEN a) (split r (r .node) Right) (onward r)))
+
+-- "seek(n): look. Code 4: stopped." Else by what it sees.
+unfoldable pub seekMoves : ℕ → Team → Answer → Team
+seekMoves t r a = cond (hasCode 4 a) (stop r) (sightMoves t r a)
 
 -- "mark(n, p): mark. Granted: split(n, right). Code 14: seek(n+1). Else seek(n)."
 unfoldable pub markMoves : Team → Answer → Team

@@ -1,8 +1,9 @@
 // A team's record, and what a step answers. Document 01's step rules are the definitions of specs/; what a run of teams leaves is a theorem of this crate.
 ghost use mathlib.Core.Path.{_≡_};
 ghost use Rattle.steps.specs.Records.{freshTeam};
-
-use rules::{Ledger, Answer, Change};
+use rules::Answer;
+use rules::Change;
+use rules::Ledger;
 
 pub enum Place {
     Seek,
@@ -61,6 +62,12 @@ impl Team {
     pub fn fresh() -> Team
         ensures { λ r. ⌜ r ≡ freshTeam ⌝ }
     {
-        Team { place: Place::Seek, node: 1, position: 0, side: Side::Left, size: 1 }
+        Team {
+            place: Place::Seek,
+            node: 1,
+            position: 0,
+            side: Side::Left,
+            size: 1,
+        }
     }
 }

@@ -1,0 +1,2 @@
+-- What the code of the places needs of the definitions.
+pub mod Laws

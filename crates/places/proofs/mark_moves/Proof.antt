@@ -1,0 +1,16 @@
+-- Granted, code 14, or else.
+use borrow.Author.Tests.{ne-eqb}
+use Rattle.steps.specs.Places.{markMoves}
+use Rattle.places.proofs.mark_moves.Statement.{statement}
+use Rattle.places.proofs.mark_moves.Tie as tie
+
+pub mark-moves-spec : {M : Type 1} → statement M
+unfolding markMoves
+mark-moves-spec = tie.close (tie.spec
+    (λ c κs. tt)
+    (λ c κs. tt)
+    (λ c κs. tt)
+    (λ c κs. tt)
+    (λ c. λ h. rw (c .before .match .keys1) (c .split-at .ensures))
+    (λ c. λ h. rw (c .before .before .match .keys2, c .seek-at .ensures, c .before .next-of .ensures h))
+    (λ c. λ h. rw (ne-eqb _ 0 (c .before .match .rest .0 .1), ne-eqb _ 14 (c .before .match .rest .1)) (c .seek-at2 .ensures)))

@@ -1,0 +1,12 @@
+-- Marked where there is something to steal, and else passed.
+use Rattle.places.proofs.owned_moves.Statement.{statement}
+use Rattle.places.proofs.owned_moves.Tie as tie
+
+pub owned-moves-spec : {M : Type 1} → statement M
+owned-moves-spec = tie.close (tie.spec
+    (λ c κs. tt)
+    (λ c κs. tt)
+    (λ c κs. tt)
+    (λ c κs. tt)
+    (λ c. λ h. rw (← c .before .before .is-stealable .ensures, c .before .if1 .taken) (c .mark-at .ensures))
+    (λ c. λ h. rw (← c .before .before .before .is-stealable .ensures, c .before .before .if1 .left, c .seek-at .ensures, c .before .next-of .ensures h)))

@@ -1,0 +1,2 @@
+-- What the code of a step may count on.
+pub mod Ready

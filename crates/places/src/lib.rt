@@ -1,0 +1,243 @@
+// The eight places: what a team asks at each, and where the answer sends it.
+ghost use mathlib.Core.Path.{_≡_};
+ghost use mathlib.Core.Bool.{cond};
+ghost use Prim.Native.Nat.{_≤_};
+ghost use lib.Dec.{eqb};
+ghost use Rattle.steps.specs.Records.{maxNode, claim, mark, isStopped};
+ghost use Rattle.steps.specs.Asks.{request};
+ghost use Rattle.steps.specs.Places.{scan, stealable, again, onward, takeChild, grownSize, sightMoves, seekMoves, takeMoves, workMoves, claimMoves, markMoves, splitMoves, joinMoves};
+ghost use Rattle.steps.specs.Turn.{asks, moves};
+ghost use Rattle.places.specs.Ready.{Limited, Small};
+
+mod records;
+
+use rules::Answer;
+use rules::Request;
+use steps::Place;
+use steps::Side;
+use steps::Team;
+
+// The kinds of requests.
+const OWN: u32 = 1;
+
+const ADVANCE: u32 = 2;
+
+const MARK: u32 = 3;
+
+const EXPAND: u32 = 4;
+
+const LOOK: u32 = 5;
+
+// The states of a node, as a look tells them.
+const AVAILABLE: u32 = 1;
+
+const OWNED: u32 = 2;
+
+const STOLEN: u32 = 4;
+
+const EXPANDED: u32 = 5;
+
+fn request_of(kind: u32, number: u32, node: u32, position: i32, amount: u32) -> Request
+    ensures { λ q. ⌜ (Small kind number node amount → q ≡ request kind number node position amount) ⌝ }
+{
+    let k = numbers::to_signed(kind);
+    let t = numbers::to_signed(number);
+    let n = numbers::to_signed(node);
+    let a = numbers::to_signed(amount);
+    Request {
+        kind: k,
+        team: t,
+        node: n,
+        position: position,
+        amount: a,
+    }
+}
+
+pub fn has_stopped(p: Place) -> bool
+    ensures { λ r. ⌜ r ≡ isStopped p ⌝ }
+{
+    match p {
+        Place::Seek => false,
+        Place::Take => false,
+        Place::Work => false,
+        Place::Claim => false,
+        Place::Mark => false,
+        Place::Split => false,
+        Place::Join => false,
+        Place::Stopped => true,
+    }
+}
+
+// The request that a team makes at its place. One that has stopped makes none, which is a request of kind 0.
+pub fn asks_of(number: u32, t: Team) -> Request
+    ensures { λ q. ⌜ (Limited number t → q ≡ asks scan number t) ⌝ }
+{
+    let n = t.node;
+    let place = t.place;
+    match place {
+        Place::Seek => request_of(LOOK, number, n, 0, 0),
+        Place::Take => request_of(OWN, number, n, 0, 0),
+        Place::Work => request_of(LOOK, number, n, 0, 0),
+        Place::Claim => request_of(ADVANCE, number, n, t.position, t.size),
+        Place::Mark => request_of(MARK, number, n, t.position, 0),
+        Place::Split => request_of(EXPAND, number, n, 0, 0),
+        Place::Join => request_of(LOOK, number, n, 0, 0),
+        Place::Stopped => request_of(0, 0, 0, 0, 0),
+    }
+}
+
+fn is_stealable(number: u32, a: Answer) -> bool
+    ensures { λ r. ⌜ r ≡ stealable number a ⌝ }
+{
+    (a.state == OWNED) & (!(a.owner == number) & (2 <= numbers::less_by(a.to, a.from)))
+}
+
+// An OWNED node is marked where there is something to steal, and else passed.
+fn owned_moves(number: u32, t: Team, a: Answer) -> Team
+    ensures { λ r. ⌜ (t .node ≤ maxNode → r ≡ cond (stealable number a) (mark t (t .node) (a .«from»)) (onward t)) ⌝ }
+{
+    let n = t.node;
+    if is_stealable(number, a) {
+        records::mark_at(t, n, a.from)
+    } else {
+        records::seek_at(t, records::next_of(n))
+    }
+}
+
+fn sight_moves(number: u32, t: Team, a: Answer) -> Team
+    ensures { λ r. ⌜ (t .node ≤ maxNode → r ≡ sightMoves number t a) ⌝ }
+{
+    let n = t.node;
+    let state = a.state;
+    match state {
+        AVAILABLE => records::take_at(t, n),
+        OWNED => owned_moves(number, t, a),
+        STOLEN => records::split_at(t, n, Side::Right),
+        _ => records::seek_at(t, records::next_of(n)),
+    }
+}
+
+fn seek_moves(number: u32, t: Team, a: Answer) -> Team
+    ensures { λ r. ⌜ (t .node ≤ maxNode → r ≡ seekMoves number t a) ⌝ }
+{
+    let code = a.code;
+    match code {
+        4 => records::stop_there(t),
+        _ => sight_moves(number, t, a),
+    }
+}
+
+fn take_moves(t: Team, a: Answer) -> Team
+    ensures { λ r. ⌜ r ≡ takeMoves t a ⌝ }
+{
+    let n = t.node;
+    let code = a.code;
+    match code {
+        0 => records::work_at(records::resize(t, 1), n),
+        _ => records::seek_at(t, 1),
+    }
+}
+
+// An OWNED node is claimed by its owner alone.
+fn held_moves(number: u32, t: Team, a: Answer) -> Team
+    ensures { λ r. ⌜ r ≡ cond (eqb (a .owner) number) (claim t (t .node) (a .«from»)) (again t) ⌝ }
+{
+    let n = t.node;
+    if a.owner == number {
+        records::claim_at(t, n, a.from)
+    } else {
+        records::seek_at(t, 1)
+    }
+}
+
+fn work_moves(number: u32, t: Team, a: Answer) -> Team
+    ensures { λ r. ⌜ r ≡ workMoves number t a ⌝ }
+{
+    let n = t.node;
+    let state = a.state;
+    match state {
+        OWNED => held_moves(number, t, a),
+        STOLEN => records::split_at(t, n, Side::Left),
+        EXPANDED => records::take_at(t, a.left),
+        _ => records::seek_at(t, 1),
+    }
+}
+
+// The lesser of 2 × size and cap. The size is doubled only where that does not pass the cap, so no size can make it wrap.
+fn grown_size(cap: u32, t: Team) -> u32
+    ensures { λ k. ⌜ k ≡ grownSize cap t ⌝ }
+{
+    let size = t.size;
+    if size <= cap / 2 { 2 * size } else { cap }
+}
+
+fn claim_moves(cap: u32, t: Team, a: Answer) -> Team
+    ensures { λ r. ⌜ r ≡ claimMoves cap t a ⌝ }
+{
+    let n = t.node;
+    let code = a.code;
+    match code {
+        0 => records::work_at(records::resize(t, grown_size(cap, t)), n),
+        9 => records::split_at(t, n, Side::Left),
+        _ => records::work_at(t, n),
+    }
+}
+
+fn mark_moves(t: Team, a: Answer) -> Team
+    ensures { λ r. ⌜ (t .node ≤ maxNode → r ≡ markMoves t a) ⌝ }
+{
+    let n = t.node;
+    let code = a.code;
+    match code {
+        0 => records::split_at(t, n, Side::Right),
+        14 => records::seek_at(t, records::next_of(n)),
+        _ => records::seek_at(t, n),
+    }
+}
+
+fn child_moves(t: Team, a: Answer) -> Team
+    ensures { λ r. ⌜ (a .left ≤ maxNode → r ≡ takeChild t a) ⌝ }
+{
+    let side = t.side;
+    records::take_at(t, records::child_on(side, a.left))
+}
+
+fn split_moves(t: Team, a: Answer) -> Team
+    ensures { λ r. ⌜ (a .left ≤ maxNode → r ≡ splitMoves t a) ⌝ }
+{
+    let n = t.node;
+    let side = t.side;
+    let code = a.code;
+    match code {
+        0 => child_moves(t, a),
+        16 => records::join_at(t, n, side),
+        _ => records::seek_at(t, 1),
+    }
+}
+
+fn join_moves(t: Team, a: Answer) -> Team
+    ensures { λ r. ⌜ (a .left ≤ maxNode → r ≡ joinMoves t a) ⌝ }
+{
+    let state = a.state;
+    match state {
+        EXPANDED => child_moves(t, a),
+        _ => records::seek_at(t, 1),
+    }
+}
+
+// Where an answer sends a team from its place.
+pub fn moves_of(number: u32, cap: u32, t: Team, a: Answer) -> Team
+    ensures { λ r. ⌜ (t .node ≤ maxNode → a .left ≤ maxNode → r ≡ moves scan number cap t a) ⌝ }
+{
+    let place = t.place;
+    match place {
+        Place::Seek => seek_moves(number, t, a),
+        Place::Take => take_moves(t, a),
+        Place::Work => work_moves(number, t, a),
+        Place::Claim => claim_moves(cap, t, a),
+        Place::Mark => mark_moves(t, a),
+        Place::Split => split_moves(t, a),
+        Place::Join => join_moves(t, a),
+        Place::Stopped => t,
+    }
+}

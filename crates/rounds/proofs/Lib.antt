@@ -1,0 +1,3 @@
+-- What the step over lent records needs, and its walk.
+pub mod Laws
+pub mod Guard

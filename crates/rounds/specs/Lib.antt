@@ -1,0 +1,2 @@
+-- The step over lent records, taken apart as its code does.
+pub mod Lent

@@ -1,0 +1,206 @@
+-- A record in a run stays within its limits, so that no step of a run is refused.
+use mathlib.Core.Path.{_≡_, refl, ap}
+use mathlib.Core.Bool.{Bool, true, false, cond}
+use Prim.Native.Nat.{ℕ, _+_, _*_, _≤_, min}
+use native.Mathlib.Omega.{arith}
+use lib.Dec.{eqb}
+use borrow.Author.Tests.{eqb-true, ne-eqb}
+use Rattle.rules.specs.declared.Ledger.{Ledger}
+use Rattle.rules.specs.declared.Request.{Request}
+use Rattle.rules.specs.declared.Answer.{Answer}
+use Rattle.rules.specs.declared.Answered.{Answered}
+use Rattle.rules.specs.declared.Change.{Change}
+use Rattle.rules.specs.declared.Change.the-variants as change
+use Rattle.rules.specs.Requests.{refused, seen, changed, decided, view, nodeIn, answered, requested}
+use Rattle.rules.specs.States.{AVAILABLE, STOLEN, EXPANDED, stateOf}
+use Rattle.rules.specs.Table.{at, put, grown}
+use Rattle.rules.proofs.Keeps.{requested-wf}
+use Rattle.rules.proofs.Record.{WF}
+use Rattle.rules.proofs.States.{is-expanded}
+use Rattle.steps.specs.declared.Place.{Place}
+use Rattle.steps.specs.declared.Place.the-variants.{Seek, Take, Work, Claim, Mark, Split, Join, Stopped}
+use Rattle.steps.specs.declared.Side.{Side}
+use Rattle.steps.specs.declared.Side.the-variants.{Left, Right}
+use Rattle.steps.specs.declared.Team.{Team}
+use Rattle.steps.specs.Asks.{mark, expand, look}
+use Rattle.steps.specs.Records.{childOn, sized, take, work}
+use Rattle.steps.specs.Places.{Search, lineAt, scan, again, onward, grownSize, mine, stealable, takeMoves, workMoves, claimMoves, splitMoves, joinMoves, seekMoves, markMoves}
+use Rattle.steps.specs.Step.{stepFrom}
+use Rattle.steps.proofs.Asked.{InUse, by-mark, by-expand, by-look}
+use Rattle.steps.proofs.Fair.{is-child}
+use Rattle.steps.proofs.Seeks.{Searching, seeks, steals}
+
+-- what 19 asks of a record, and more of the node: at most one past those in use
+pub record Fit (cap used : ℕ) (r : Team) : Type 0 where
+  pub low : 1 ≤ r .node
+  pub high : r .node ≤ used + 1
+  pub least : 1 ≤ r .size
+  pub most : r .size ≤ cap
+
+pub fit-more : {cap used more : ℕ} {r : Team} → used ≤ more → Fit cap used r → Fit cap more r
+fit-more h f = record { low = f .low; high = omega arith; least = f .least; most = f .most }
+
+-- a choice keeps what both of its sides do
+either : {A : Type 0} (P : A → Type 0) (b : Bool) (x y : A) → (b ≡ true → P x) → (b ≡ false → P y) → P (cond b x y)
+either P true x y f g = f refl
+either P false x y f g = g refl
+
+pub used-grows : (l : Ledger) (q : Request) → WF l → l .used ≤ requested l q .ledger .used
+unfolding answered
+used-grows l q w = rw (requested-wf l q w) (go (nodeIn q) (decided (view l (nodeIn q)) q .change))
+  where
+    go : (n : ℕ) (c : Change) → l .used ≤ changed l n c .used
+    go n change.Keep = unfold changed in (omega arith)
+    go n (change.Store y) = unfold changed put in (omega arith)
+    go n (change.Split y p u v) = unfold changed put grown in (omega arith)
+
+module _ (cap : ℕ) (l : Ledger) (w : WF l) (t : ℕ) (tl : 1 ≤ t) (th : t ≤ l .teams) (r : Team) (f : Fit cap (l .used) r) (some : 1 ≤ cap) where
+  abbrev n : ℕ
+  n = r .node
+
+  abbrev Fits : Team → Type 0
+  Fits = Fit cap (l .used)
+
+  to : (m : ℕ) (x : Team) → 1 ≤ m → m ≤ l .used + 1 → x .node ≡ m → x .size ≡ r .size → Fits x
+  to m x a b e g = record { low = omega arith; high = omega arith; least = omega (arith, f .least); most = omega (arith, f .most) }
+
+  same : (x : Team) → x .node ≡ n → x .size ≡ r .size → Fits x
+  same x e g = to n x (f .low) (f .high) e g
+
+  back : Fits (again r)
+  back = to 1 (again r) (omega arith) (omega arith) refl refl
+
+  child-fit : n ≤ l .used → (d : Side) → eqb (stateOf (at l n)) EXPANDED ≡ true → Fits (take r (childOn d (at l n .left)))
+  child-fit h d e =
+      let c = is-child l w n (f .low) h (is-expanded (at l n) (eqb-true (stateOf (at l n)) EXPANDED e) .parent) d in
+      to (childOn d (at l n .left)) _ (c .low) (omega (arith, c .high)) refl refl
+
+  fit-take : (a : Answer) → Fits (takeMoves r a)
+  unfolding takeMoves
+  fit-take a =
+      either
+      Fits
+      (eqb (a .code) 0)
+      (work (sized r 1) n)
+      (again r)
+      (λ e. record { low = f .low; high = f .high; least = omega arith; most = some })
+      (λ e. back)
+
+  fit-work : Fits (workMoves t r (requested l (look t n) .answer))
+  unfolding workMoves
+  fit-work = by-look l w t n tl th (λ (u : Answered). Fits (workMoves t r (u .answer))) saw (λ none. back)
+    where
+      a : Answer
+      a = seen (at l n)
+
+      saw : InUse l n → Fits (workMoves t r (seen (at l n)))
+      saw u =
+          either Fits (mine t a) _ _ (λ e. same _ refl refl) (λ e.
+          either Fits (eqb (stateOf (at l n)) STOLEN) _ _ (λ e. same _ refl refl) (λ e.
+          either Fits (eqb (stateOf (at l n)) EXPANDED) _ _ (λ e. child-fit (u .high) Left e) (λ e. back)))
+
+  fit-claim : (a : Answer) → Fits (claimMoves cap r a)
+  unfolding claimMoves
+  fit-claim a =
+      either Fits (eqb (a .code) 0) _ _ (λ e. record { low = f .low; high = f .high; least = omega (arith, f .least); most = omega arith }) (λ e.
+      either Fits (eqb (a .code) 9) _ _ (λ e. same _ refl refl) (λ e. same _ refl refl))
+
+  fit-split : Fit cap (requested l (expand t n) .ledger .used) (splitMoves r (requested l (expand t n) .answer))
+  unfolding splitMoves grown put
+  fit-split =
+      by-expand l w t n tl th (λ (u : Answered). Fit cap (u .ledger .used) (splitMoves r (u .answer))) (λ g. new (r .side)) (λ c ne a b.
+      either Fits (eqb c 0) _ _ (λ e. absurd (ne (eqb-true c 0 e))) (λ e.
+      either Fits (eqb c 16) _ _ (λ e. same _ refl refl) (λ e. back)))
+    where
+      new : (d : Side) → Fit cap (l .used + 2) (take r (childOn d (l .used + 1)))
+      new Left = record { low = omega arith; high = omega arith; least = f .least; most = f .most }
+      new Right = record { low = omega arith; high = omega arith; least = f .least; most = f .most }
+
+  fit-join : Fits (joinMoves r (requested l (look t n) .answer))
+  unfolding joinMoves
+  fit-join = by-look l w t n tl th (λ (u : Answered). Fits (joinMoves r (u .answer))) saw (λ none. back)
+    where
+      saw : InUse l n → Fits (joinMoves r (seen (at l n)))
+      saw u = either Fits (eqb (stateOf (at l n)) EXPANDED) _ _ (λ e. child-fit (u .high) (r .side) e) (λ e. back)
+
+  -- ---- program 1
+
+  fit-seek : Fits (seekMoves t r (requested l (look t n) .answer))
+  unfolding seekMoves
+  fit-seek = by-look l w t n tl th (λ (u : Answered). Fits (seekMoves t r (u .answer))) saw (λ none. same _ refl refl)
+    where
+      a : Answer
+      a = seen (at l n)
+
+      saw : InUse l n → Fits (seekMoves t r (seen (at l n)))
+      saw u =
+          either Fits (eqb (stateOf (at l n)) AVAILABLE) _ _ (λ e. same _ refl refl) (λ e.
+          either Fits (stealable t a) _ _ (λ e. same _ refl refl) (λ e.
+          either Fits (eqb (stateOf (at l n)) STOLEN) _ _ (λ e. same _ refl refl) (λ e. next u)))
+        where
+          next : InUse l n → Fits (onward r)
+          next u = to (n + 1) _ (omega arith) (omega (arith, u .high)) refl refl
+
+  fit-mark : Fits (markMoves r (requested l (mark t n (r .position)) .answer))
+  unfolding markMoves
+  fit-mark =
+      by-mark l w t n tl th (r .position) (λ (u : Answered). Fits (markMoves r (u .answer))) (λ g. same _ refl refl) (λ c ne told.
+      either Fits (eqb c 0) _ _ (λ z. same _ refl refl) (λ z.
+      either Fits (eqb c 14) _ _ (λ z. next (told (eqb-true c 14 z))) (λ z. same _ refl refl)))
+    where
+      next : n ≤ l .used → Fits (onward r)
+      next h = to (n + 1) _ (omega arith) (omega arith) refl refl
+
+-- ---- any program whose search stays within the limits
+
+pub record Roams (s : Search) (t : ℕ) : Type 0 where
+  pub fits : (p : Place)
+      → Searching p
+      → (cap : ℕ) (l : Ledger)
+      → WF l
+      → 1 ≤ t
+      → t ≤ l .teams
+      → (r : Team)
+      → Fit cap (l .used) r
+      → 1 ≤ cap
+      → Fit cap (l .used) (lineAt s p .moves t cap r (requested l (lineAt s p .asks t r) .answer))
+
+pub scan-roams : (t : ℕ) → Roams scan t
+scan-roams t = record { fits = go }
+  where
+    go : (p : Place)
+        → Searching p
+        → (cap : ℕ) (l : Ledger)
+        → WF l
+        → 1 ≤ t
+        → t ≤ l .teams
+        → (r : Team)
+        → Fit cap (l .used) r
+        → 1 ≤ cap
+        → Fit cap (l .used) (lineAt scan p .moves t cap r (requested l (lineAt scan p .asks t r) .answer))
+    go Seek seeks cap l w tl th r f some = fit-seek cap l w t tl th r f some
+    go Mark steals cap l w tl th r f some = fit-mark cap l w t tl th r f some
+
+module _ (s : Search) (t : ℕ) (roams : Roams s t) (cap : ℕ) (some : 1 ≤ cap) (l : Ledger) (w : WF l) (tl : 1 ≤ t) (th : t ≤ l .teams)
+    (r : Team) (f : Fit cap (l .used) r) where
+  pub step-grows : (p : Place) → l .used ≤ stepFrom p s t cap l r .ledger .used
+  unfolding stepFrom
+  step-grows Seek = used-grows l _ w
+  step-grows Take = used-grows l _ w
+  step-grows Work = used-grows l _ w
+  step-grows Claim = used-grows l _ w
+  step-grows Mark = used-grows l _ w
+  step-grows Split = used-grows l _ w
+  step-grows Join = used-grows l _ w
+  step-grows Stopped = omega arith
+
+  pub step-fit : (p : Place) → Fit cap (stepFrom p s t cap l r .ledger .used) (stepFrom p s t cap l r .team)
+  unfolding stepFrom
+  step-fit Seek = fit-more (used-grows l _ w) (roams .fits Seek seeks cap l w tl th r f some)
+  step-fit Take = fit-more (used-grows l _ w) (fit-take cap l w t tl th r f some _)
+  step-fit Work = fit-more (used-grows l _ w) (fit-work cap l w t tl th r f some)
+  step-fit Claim = fit-more (used-grows l _ w) (fit-claim cap l w t tl th r f some _)
+  step-fit Mark = fit-more (used-grows l _ w) (roams .fits Mark steals cap l w tl th r f some)
+  step-fit Split = fit-split cap l w t tl th r f some
+  step-fit Join = fit-more (used-grows l _ w) (fit-join cap l w t tl th r f some)
+  step-fit Stopped = f

@@ -1,0 +1,122 @@
+// One team's step, with its record by value: exactly as the definitions of `steps` say.
+ghost use mathlib.Core.Path.{_≡_};
+ghost use mathlib.Core.Bool.{true};
+ghost use Rattle.rules.specs.WellFormed.{wellFormed};
+ghost use Rattle.steps.specs.Places.{scan};
+ghost use Rattle.steps.specs.Step.{unfit, soloCode, unmoved, stepAt, soloStep};
+ghost use Rattle.steps.specs.Turn.{still, turned};
+ghost use Rattle.places.specs.Ready.{Limited, Ready};
+use rules::Change;
+use rules::Ledger;
+use rules::Opening;
+use rules::View;
+use steps::Stepped;
+use steps::Team;
+use steps::Turned;
+
+// 19: what is wrong with a cap or a record.
+fn is_unfit(cap: i32, t: Team) -> bool
+    ensures { λ b. ⌜ b ≡ unfit cap t ⌝ }
+{
+    let most = numbers::natural(cap);
+    let capped = numbers::in_range(cap, 1, Opening::CAP);
+    let placed = (1 <= t.node) & (t.node <= Team::NODE);
+    let sized = (1 <= t.size) & (t.size <= most);
+    !capped | (!placed | !sized)
+}
+
+fn code_of(l: Ledger, number: i32, cap: i32, t: Team) -> u32
+    ensures { λ c. ⌜ c ≡ soloCode l number cap t ⌝ }
+{
+    let c19 = numbers::given_code(is_unfit(cap, t), 19, 0);
+    let c3 = numbers::given_code(!numbers::in_range(number, 1, l.teams), 3, c19);
+    numbers::given_code(!ledger::well_formed(l), 1, c3)
+}
+
+fn unmoved_by(code: u32, l: Ledger, t: Team) -> Stepped
+    ensures { λ r. ⌜ r ≡ unmoved code l t ⌝ }
+{
+    let answer = nodes::grants::refused_by(code);
+    Stepped {
+        ledger: l,
+        team: t,
+        kind: 0,
+        node: 0,
+        answer: answer,
+    }
+}
+
+fn step_at(number: u32, cap: u32, l: Ledger, t: Team) -> Stepped
+    ensures { λ r. ⌜ (wellFormed l ≡ true → Limited number t → r ≡ stepAt scan number cap l t) ⌝ }
+{
+    let place = t.place;
+    if places::has_stopped(place) {
+        return unmoved_by(0, l, t);
+    }
+    let q = places::asks_of(number, t);
+    let done = ledger::request(l, q);
+    let next = done.ledger;
+    let answer = done.answer;
+    let team = places::moves_of(number, cap, t, answer);
+    let kind = numbers::natural(q.kind);
+    let node = numbers::natural(q.node);
+    Stepped {
+        ledger: next,
+        team: team,
+        kind: kind,
+        node: node,
+        answer: answer,
+    }
+}
+
+// A step of the team with this number and this record, in a run with this cap. It is refused by 1, 3 and 19, in this order; with one
+// record by value none can be too few.
+pub fn step(l: Ledger, number: i32, cap: i32, team: Team) -> Stepped
+    ensures { λ r. ⌜ r ≡ soloStep scan l number cap team ⌝ }
+{
+    let code = code_of(l, number, cap, team);
+    if code != 0 {
+        return unmoved_by(code, l, team);
+    }
+    let t = numbers::natural(number);
+    let most = numbers::natural(cap);
+    step_at(t, most, l, team)
+}
+
+fn still_turn(t: Team) -> Turned
+    ensures { λ r. ⌜ r ≡ still t ⌝ }
+{
+    let answer = nodes::grants::refused_by(0);
+    Turned {
+        team: t,
+        kind: 0,
+        node: 0,
+        answer: answer,
+        change: Change::Keep,
+    }
+}
+
+// The step without its ledger, by the one node that its request names: for a run that holds the ledger itself, and knows that it is well
+// formed and the record within its limits. It is no public call.
+pub fn turn(number: u32, cap: u32, t: Team, v: View) -> Turned
+    ensures { λ r. ⌜ (Ready number t v → r ≡ turned scan number cap t v) ⌝ }
+{
+    let place = t.place;
+    if places::has_stopped(place) {
+        return still_turn(t);
+    }
+    let q = places::asks_of(number, t);
+    let o = nodes::decide(v, q);
+    let answer = o.answer;
+    let change = o.change;
+    let team = places::moves_of(number, cap, t, answer);
+    let kind = numbers::natural(q.kind);
+    let node = numbers::natural(q.node);
+    Turned {
+        team: team,
+        kind: kind,
+        node: node,
+        answer: answer,
+        change: change,
+    }
+}
