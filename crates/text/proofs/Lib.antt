@@ -2,3 +2,4 @@ pub mod Scanning
 pub mod Values
 pub mod Passing
 pub mod Judging
+pub mod Demands

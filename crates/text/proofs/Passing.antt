@@ -69,9 +69,10 @@ fault-next text place line t f m e =
       within = m .within;
       most = omega (arith, line-most (isLineEnd (t .kind)) line, m .further, f .most);
       same =
-        rw
-        (m .rest, m .is)
-        (sym (fault-on (length text) line (marks (drop place text)) (rw (m .is) at e)) ∙ f .same) }
+          rw
+          (m .rest, m .is)
+          (sym (fault-on (length text) line (marks (drop place text)) (rw (m .is) at e)) ∙ f .same);
+    }
 
 pub fault-here : (text : List ℕ) (place line : ℕ) (t : Token) → Faulting text place line → Moves text place t → (faultOf t ≡ 0 → ⊥) → ruled (faultOf t) line ≡ faultFrom 1 (marks text)
 fault-here text place line t f m e =
@@ -125,7 +126,8 @@ seek-next text place line t s m e =
       within = m .within;
       most = omega (arith, line-most (isLineEnd (t .kind)) line, m .further, s .most);
       head = rw (m .rest, m .is) (sym (head-on n line ms e′) ∙ s .head);
-      from = rw (m .rest) (sym (from-on n ms e′) ∙ s .from) }
+      from = rw (m .rest) (sym (from-on n ms e′) ∙ s .from);
+    }
 
 pub seek-here : (text : List ℕ) (place line : ℕ) (t : Token) → length text ≤ maxBytes → place < length text → Seeking text place line → Moves text place t → isNumber (t .kind) ≡ true → FoundHead text (record { line = line; place = place })
 seek-here text place line t h l s m e =
@@ -136,7 +138,8 @@ seek-here text place line t h l s m e =
       line = sym (head-off n line ms e′) ∙ s .head;
       small = omega (arith, s .most);
       within = s .within;
-      there = sym (from-off n ms e′) ∙ s .from }
+      there = sym (from-off n ms e′) ∙ s .from;
+    }
 
 pub seek-none : (text : List ℕ) (place line : ℕ) → Seeking text place line → marks (drop place text) ≡ [] → FoundHead text (record { line = 0; place = place })
 unfolding headLine fromHead
@@ -145,7 +148,8 @@ seek-none text place line s e =
       line = rw e at (s .head);
       small = omega arith;
       within = s .within;
-      there = e ∙ (rw e at (s .from)) }
+      there = e ∙ (rw e at (s .from));
+    }
 
 -- ---- the numbers of a line
 row-on : (n : ℕ) (ms : List Mark) → isLineEnd (tokenOf n ms .kind) ≡ false → lineNumbers ms ≡ cond (isNumber (tokenOf n ms .kind)) (tokenOf n ms .value ∷ lineNumbers (later ms)) (lineNumbers (later ms))
@@ -224,7 +228,8 @@ row-next text ms place row t r m e =
       count = rw (m .rest) (taken-count (isNumber (t .kind)) (row .count) (t .value) (lineNumbers (later here)) (lineNumbers ms) (rw on at (r .count)));
       five = rw (m .rest) (taken-five (isNumber (t .kind)) (row .five) (row .count) (t .value) (lineNumbers (later here)) ∙ (rw on at (r .five)));
       after = rw (m .rest) (sym (after-on n here e′) ∙ r .after);
-      left = rw (m .rest) (sym (left-on n here e′) ∙ r .left) }
+      left = rw (m .rest) (sym (left-on n here e′) ∙ r .left);
+    }
 
 sets-past : {A : Type 0} (vs l : List A) (i : ℕ) → length l ≤ i → sets l i vs ≡ l
 sets-past [] l i h = refl
@@ -253,7 +258,8 @@ row-ends text from place row t r m e =
       five = rw (o .other) (ap openingOf five ∙ five-first (lineNumbers ms));
       end = o .end ∙ ap (λ (k : ℕ). n - k) (r .left);
       within = m .within;
-      there = m .rest ∙ sym (o .after) ∙ r .after }
+      there = m .rest ∙ sym (o .after) ∙ r .after;
+    }
 
 pub row-stops : (text : List ℕ) (from place : ℕ) (row : Row) → length text ≤ place → Rowing text (marks (drop from text)) place row → marks (drop place text) ≡ [] → FoundRow text from row
 unfolding lineNumbers afterLine leftAfter
@@ -267,7 +273,8 @@ row-stops text from place row h r e =
       five = ap openingOf five ∙ five-first (lineNumbers ms);
       end = omega (arith, r .end, r .within, left);
       within = omega (arith, r .end, r .within);
-      there = rw (r .end) (e ∙ (rw e at (r .after))) }
+      there = rw (r .end) (e ∙ (rw e at (r .after)));
+    }
 
 -- ---- all numbers
 numbers-on : (n : ℕ) (ms : List Mark) → numbersOf ms ≡ cond (isNumber (tokenOf n ms .kind)) (tokenOf n ms .value ∷ numbersOf (later ms)) (numbersOf (later ms))
@@ -321,7 +328,8 @@ tally-next text ms from on teams place line tally t r m =
       most = omega (arith, line-most (isLineEnd (t .kind)) line, m .further, r .most);
       size = taken-size (isNumber (t .kind)) (tally .count) place (t .end) (r .size) (m .further);
       stranger = rw (m .rest, m .is) (stranger-on n teams line (tally .stranger) here (r .least) ∙ r .stranger);
-      count = rw (m .rest) (taken-count (isNumber (t .kind)) (tally .count) (t .value) (numbersOf (later here)) (numbersOf ms) (rw next at (r .count))) }
+      count = rw (m .rest) (taken-count (isNumber (t .kind)) (tally .count) (t .value) (numbersOf (later here)) (numbersOf ms) (rw next at (r .count)));
+    }
 
 earlier-last : (s : ℕ) → earlierOf s 0 ≡ s
 earlier-last zero = refl
@@ -353,7 +361,8 @@ module _ (text : List ℕ) (ms : List Mark) (first area : List ℤ) (place k : �
         within = m .within;
         room = rw (length-set area k (signed (t .value))) (omega (arith, room));
         size = rw (length-set area k (signed (t .value))) (f .size);
-        same = rw (add-one k) (rw next at (f .same)) }
+        same = rw (add-one k) (rw next at (f .same));
+      }
 
   pub fill-other : isNumber (t .kind) ≡ false → Filling text ms first area (t .end) k
   fill-other e =
@@ -362,7 +371,8 @@ module _ (text : List ℕ) (ms : List Mark) (first area : List ℤ) (place k : �
         within = m .within;
         room = rw next at (f .room);
         size = f .size;
-        same = rw next at (f .same) }
+        same = rw next at (f .same);
+      }
 
   -- there is room for a number that is found
   pub fill-room : isNumber (t .kind) ≡ true → k < length area

@@ -107,7 +107,8 @@ moves text place h t e =
       is = e;
       rest = rw (far, ← drop-drop (length text - place - leftOf ms) place text, ← length-drop place text) (sym (p .rest));
       further = omega (arith, end, left);
-      within = omega (arith, end, left) }
+      within = omega (arith, end, left);
+    }
 
 -- ---- byte by byte
 at-byte : (text : List ℕ) (i : ℕ) (c : Bool) → i < length text → marksFrom c (drop i text) ≡ added c (classOf (getD text i 0)) (getD text i 0) (drop (i + 1) text) (marksFrom (inComment c (classOf (getD text i 0))) (drop (i + 1) text))
@@ -232,7 +233,8 @@ runs-on text from i v r h b e =
     record {
       small = grown-small v (getD text i 0) b (r .small);
       value = rw (run-on text i h e) at (r .value);
-      end = omega (arith, r .end, l) }
+      end = omega (arith, r .end, l);
+    }
 
 pub runs-out : (text : List ℕ) (from i v : ℕ) → Running text from i v → runOf (drop i text) ≡ [] → record { value = v; end = i } ≡ runAt text from
 unfolding grownBy runAt

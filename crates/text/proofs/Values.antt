@@ -57,3 +57,7 @@ not-large false v e = ltb-false maxNumber v e
 pub number-large : (ds : List ℕ) → ltb maxNumber (numberOf ds) ≡ tooLarge ds
 unfolding tooLarge numberOf
 number-large ds = large-number (tooLarge ds) (value ds) (not-large (ltb maxDigits (length ds)) (value ds))
+
+pub small-value : (ds : List ℕ) → tooLarge ds ≡ false → value ds ≤ maxNumber
+unfolding tooLarge
+small-value ds e = not-large (ltb maxDigits (length ds)) (value ds) e

@@ -1,10 +1,12 @@
 -- "Each answers code and LINE (both 0 when granted), the header's numbers and, for the schedule, the count of its numbers; refused, these
 -- numbers are 0 and the area stays."
-use Prim.Native.Nat.{ℕ, _-_}
+use mathlib.Core.Path.{_≡_}
+use Prim.Native.Nat.{ℕ, _+_, _-_}
 use mathlib.Core.Bool.{Bool, cond}
 use mathlib.Core.List.{List, [], _∷_, _++_, map}
 use lib.IntN.{ℤ, pos}
 use lib.ListN.{length, drop}
+use denote.Ref.{RefT, now}
 use Rattle.numbers.specs.Progress.{signed}
 use Rattle.rules.specs.declared.Opening.{Opening}
 use Rattle.text.specs.declared.Verdict.{Verdict}
@@ -36,6 +38,12 @@ restPlace text =
 
 unfoldable pub restOf : List ℕ → List ℕ
 restOf text = drop (restPlace text) text
+
+-- r is the rest of the text itself: it stands in the text's own memory, at that place
+pub record RestItself (text r : RefT (List ℕ)) : Type 0 where
+  pub block : r .ptr .0 ≡ text .ptr .0
+  pub offset : r .ptr .1 ≡ restPlace (now text) + text .ptr .1
+  pub bytes : now r ≡ restOf (now text)
 
 abbrev pub scheduleBy : Verdict → List Mark → Schedule
 scheduleBy v ms =

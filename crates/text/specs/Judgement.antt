@@ -51,7 +51,8 @@ openingOf ns =
       until = signed (getD ns 1 0);
       teams = signed (getD ns 2 0);
       cap = signed (getD ns 3 0);
-      nodes = signed (getD ns 4 0) }
+      nodes = signed (getD ns 4 0);
+    }
 
 -- the numbers of the first line with a number
 abbrev pub headOf : List Mark → List ℕ

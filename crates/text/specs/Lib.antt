@@ -7,3 +7,4 @@ pub mod Judgement
 pub mod Answers
 pub mod Tokens
 pub mod Passes
+pub mod Demands

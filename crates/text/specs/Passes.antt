@@ -37,7 +37,8 @@ rowAfter row t =
     record {
       count = cond (isNumber (t .kind)) (row .count + 1) (row .count);
       five = cond (isNumber (t .kind)) (set (row .five) (row .count) (t .value)) (row .five);
-      end = t .end }
+      end = t .end;
+    }
 
 -- the numbers of a line
 pub record FoundRow (text : List ℕ) (from : ℕ) (r : Row) : Type 0 where
@@ -55,7 +56,8 @@ unfoldable pub tallyAfter : Tally → Token → ℕ → ℕ → Tally
 tallyAfter tally t line teams =
     record {
       stranger = earlierOf (tally .stranger) (cond (isStranger t teams) line 0);
-      count = cond (isNumber (t .kind)) (tally .count + 1) (tally .count) }
+      count = cond (isNumber (t .kind)) (tally .count + 1) (tally .count);
+    }
 
 -- so few lines are left that their numbers fit
 pub record TallyAsked (text : List ℕ) (from on : ℕ) : Type 0 where

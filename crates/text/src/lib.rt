@@ -9,7 +9,7 @@ ghost use Rattle.text.specs.Lines.{numbersOf};
 ghost use Rattle.text.specs.Judgement.{maxBytes, ruled, isGranted, given, faultFrom, openingOf};
 ghost use Rattle.text.specs.Tokens.{stops, grown, runAt, readAs, kindOf, tokenAt, isNumber, isWrong, isLineEnd, lineAfter, faultOf, isStranger};
 ghost use Rattle.text.specs.Passes.{Skipped, FoundHead, rowAfter, FoundRow, earlierOf, tallyAfter, TallyAsked, tallyOf, FoundHeading};
-ghost use Rattle.text.specs.Answers.{noOpening, headerOf, restOf, filled, scheduleOf, areaOf};
+ghost use Rattle.text.specs.Answers.{noOpening, headerOf, RestItself, filled, scheduleOf, areaOf};
 use rules::Opening;
 
 // What a byte is in a text.
@@ -90,6 +90,7 @@ struct Heading {
 impl Token {
     // The most digits of a number, and the largest number.
     pub const DIGITS: usize = 10;
+
     pub const LARGEST: u32 = 2147483647;
 }
 
@@ -177,7 +178,11 @@ fn one_more(value: u64, b: u8) -> u64
     ensures { λ r. ⌜ r ≡ grown value b ⌝ }
 {
     let digit = numbers::less_by(b as u32, 48);
-    if value > 2147483647 { value } else { value * 10 + digit as u64 }
+    if value > 2147483647 {
+        value
+    } else {
+        value * 10 + digit as u64
+    }
 }
 
 fn run_at(text: &[u8], from: usize) -> Run
@@ -517,7 +522,12 @@ fn judge_header(text: &[u8]) -> Heading
     let head = find_head(text);
     let row = read_row(text, head.place);
     let opening = opening_of(row);
-    let limits = ruled_by(!opening.is_good(), 20, head.line, Verdict { code: 0, line: 0 });
+    let limits = ruled_by(
+        !opening.is_good(),
+        20,
+        head.line,
+        Verdict { code: 0, line: 0 },
+    );
     let numbers = ruled_by(row.count != Header::NUMBERS, 24, head.line, limits);
     let verdict = refused_or(fault(text), numbers);
     if verdict.code == 0 {
@@ -553,7 +563,7 @@ pub fn read_header(text: &[u8]) -> Header
 
 // The rest of the caller's text itself, from the byte after the header's line end.
 pub fn rest(text: &[u8]) -> &[u8]
-    ensures { λ r. ⌜ now r ≡ restOf (now (text .entry)) ⌝ }
+    ensures { λ r. ⌜ RestItself (text .entry) r ⌝ }
 {
     let h = judge_header(text);
     let from = h.end;
@@ -567,7 +577,12 @@ pub fn read_schedule(text: &[u8], area: &mut [i32]) -> Schedule
     let opening = h.opening;
     let from = h.end;
     let tally = count_numbers(text, from, h.line + 1, numbers::natural(opening.teams));
-    let room = ruled_by(area.len() < tally.count, 27, 0, Verdict { code: 0, line: 0 });
+    let room = ruled_by(
+        area.len() < tally.count,
+        27,
+        0,
+        Verdict { code: 0, line: 0 },
+    );
     let body = ruled_by(tally.stranger != 0, 26, tally.stranger, room);
     let verdict = refused_or(h.verdict, body);
     if verdict.code == 0 {

@@ -1,7 +1,9 @@
 // The readers at work: for each text its name, the header's answer, how long the rest is, the schedule's answer, and the area of four
 // numbers, which held 9s, after it.
 use libc::STDOUT_FILENO;
+ghost use mathlib.Core.Path.{_≡_};
 ghost use Prim.Native.Nat.{_≤_};
+ghost use lib.ListN.{length};
 use rules::Opening;
 
 fn word(w: &[u8]) {
@@ -63,47 +65,82 @@ fn granted() {
     show(b"no line end after the header", b"0 5 2 4 7");
     show(b"CR and tab", b"0\t5 2\r4 7\r\n1\t2\r\n");
     show(b"a comment glued to a number", b"0 5 2 4 7#7\n1#2\n2 # 1\n");
-    show(b"a comment before the header", b"# 1 2 3\n\n  # x\n0 5 2 4 7 # first\n2 2");
+    show(
+        b"a comment before the header",
+        b"# 1 2 3\n\n  # x\n0 5 2 4 7 # first\n2 2",
+    );
+}
+
+// Numbers, lines and comments that are granted.
+fn granted_numbers() {
     show(b"CR in a comment", b"0 5 2 4 7 # a\r1\n2");
-    show(b"NUL and bytes over 127 in a comment", b"0 5 2 4 7 #\x00\x80\xff\n1");
-    show(b"leading zeros", b"0000000000 0000000005 002 4 7\n01 0000000002");
-    show(b"the largest number", b"2147483647 2147483647 32 4096 1023\n32");
+    show(
+        b"NUL and bytes over 127 in a comment",
+        b"0 5 2 4 7 #\x00\x80\xff\n1",
+    );
+    show(
+        b"leading zeros",
+        b"0000000000 0000000005 002 4 7\n01 0000000002",
+    );
+    show(
+        b"the largest number",
+        b"2147483647 2147483647 32 4096 1023\n32",
+    );
     show(b"many lines", b"0 5 2 4 7\n\n1\n\n2 1\n\n");
     show(b"all of the area", b"0 5 2 4 7\n1 2 1 2");
 }
 
-// Each code with its line.
-fn refused() {
+// Opening values outside limits.
+fn refused_limits() {
     show(b"20, until below start", b"6 5 2 4 7\n1");
     show(b"20 on line 3, no teams", b"\n#\n0 5 0 4 7\n1");
     show(b"20, teams 33", b"0 5 33 4 7");
     show(b"20, cap 4097", b"0 5 2 4097 7");
     show(b"20, no nodes", b"0 5 2 4 0");
     show(b"20, nodes 1024", b"0 5 2 4 1024");
+}
+
+// Bytes that have no place in a text.
+fn refused_bytes() {
     show(b"22 on line 2", b"0 5 2 4 7\n1 x");
     show(b"22, a minus", b"-1 5 2 4 7");
     show(b"22, NUL", b"0 5 2 4 7\n1 \x00");
     show(b"22, a byte over 127", b"0 5 2 4 7\n\n\x80");
     show(b"22, vertical tab", b"0 5 2 4 7\x0b\n1");
     show(b"22 at the x of 12x", b"0 5 2 4 12x");
+}
+
+// Numbers that are too large.
+fn refused_numbers() {
     show(b"23, eleven digits", b"0 5 2 4 7\n00000000001");
     show(b"23, 2147483648", b"0 2147483648 2 4 7");
     show(b"23, ten nines", b"0 5 2 4 7\n1\n9999999999");
-    show(b"23, thirty digits", b"0 5 2 4 7\n123456789012345678901234567890");
+    show(
+        b"23, thirty digits",
+        b"0 5 2 4 7\n123456789012345678901234567890",
+    );
     show(b"23 before the x", b"0 5 2 4 7\n99999999999x");
+}
+
+// A header that has not five numbers, or is not there.
+fn refused_headers() {
     show(b"24, four numbers", b"\n0 5 2 4\n7\n");
     show(b"24, six numbers", b"0 5 2 4 7 1\n");
     show(b"24, one number", b"# 0 5 2 4 7\n\n1");
     show(b"24, an empty text", b"");
     show(b"24, comments alone", b"# 0 5 2 4 7\n#\n# 1");
     show(b"24, blanks alone", b" \t\r\n \n");
+}
+
+// A schedule with a number that is no team's, or too long for the area.
+fn refused_schedules() {
     show(b"26, 0", b"0 5 2 4 7\n1\n0");
     show(b"26, 3 of 2 teams", b"0 5 2 4 7\n1 2\n\n1 3 0");
     show(b"27", b"0 5 2 4 7\n1 2 1 2 1\n");
 }
 
-// Two refusals in one text: the earlier test of the judgement decides.
-fn precedence() {
+// Two refusals in one text: 22 and 23 come before the others, and the earlier of the two before the later.
+fn faults_first() {
     show(b"22 before 23", b"0 5 2 4 7\nx 99999999999");
     show(b"23 before 22", b"0 5 2 4 7\n99999999999 x");
     show(b"22 before 24", b"0 5 2 4\nx");
@@ -114,6 +151,10 @@ fn precedence() {
     show(b"23 before 26", b"0 5 2 4 7\n3\n2147483648");
     show(b"22 before 27", b"0 5 2 4 7\n1 1 1 1 1\nx");
     show(b"23 before 27", b"0 5 2 4 7\n1 1 1 1 1\n2147483648");
+}
+
+// Two refusals in one text: 24, then 20, then 26, then 27.
+fn headers_first() {
     show(b"24 before 20", b"6 5 2 4\n");
     show(b"24 before 26", b"0 5 2 4\n9");
     show(b"24 before 27", b"0 5 2 4\n1 1 1 1 1");
@@ -122,36 +163,53 @@ fn precedence() {
     show(b"26 before 27", b"0 5 2 4 7\n1 1 1 1 1 3");
 }
 
-// A header with x after it, in blanks up to 65,536 bytes, of which so many are shown.
-fn long(name: &[u8], x: u8, shown: usize)
-    requires { ⌜ shown ≤ 65536 ⌝ }
+// 65,536 times a byte. Only their number is known to a caller, which is all that lending them needs.
+fn repeated(b: u8) -> [u8; 65536]
+    ensures { λ r. ⌜ 65536 ≡ length r ⌝ }
 {
-    let mut text = io::large_buffer();
-    blank(&mut text);
-    text[0] = b'0';
-    text[2] = b'5';
-    text[4] = b'2';
-    text[6] = b'4';
-    text[8] = b'7';
-    text[9] = b'\n';
-    text[10] = x;
+    [b; 65536]
+}
+
+// A text that begins so and goes on with the filler, of which so many bytes are shown.
+fn long(name: &[u8], filler: u8, start: &[u8], shown: usize)
+    requires { ⌜ (shown ≤ 65536) × (length (now start) ≤ 65536) ⌝ }
+{
+    let mut text = repeated(filler);
+    bytes::copy(start, &mut text);
     show(name, &text[..shown]);
 }
 
-fn blank(text: &mut [u8]) {
-    let mut i = 0;
-    while i < text.len() {
-        text[i] = b' ';
-        i += 1;
-    }
+// As many bytes as there may be, and one more: 21 comes first.
+fn longest() {
+    long(b"65,535 bytes", b' ', b"0 5 2 4 7\n", 65535);
+    long(b"21, 65,536 bytes", b' ', b"0 5 2 4 7\n", 65536);
+    long(b"22 in 65,535 bytes", b' ', b"0 5 2 4 7\nx", 65535);
+    long(b"21 before 22", b' ', b"0 5 2 4 7\nx", 65536);
+    long(b"23 in 65,535 bytes", b'1', b"0 5 2 4 7\n", 65535);
+    long(b"21 before 23", b'1', b"0 5 2 4 7\n", 65536);
+}
+
+fn longest_refused() {
+    long(b"24 in 65,535 bytes", b' ', b"0 5 2 4\n", 65535);
+    long(b"21 before 24", b' ', b"0 5 2 4\n", 65536);
+    long(b"20 in 65,535 bytes", b' ', b"0 5 0 4 7\n", 65535);
+    long(b"21 before 20", b' ', b"0 5 0 4 7\n", 65536);
+    long(b"26 in 65,535 bytes", b' ', b"0 5 2 4 7\n3", 65535);
+    long(b"21 before 26", b' ', b"0 5 2 4 7\n3", 65536);
+    long(b"27 in 65,535 bytes", b' ', b"0 5 2 4 7\n1 1 1 1 1", 65535);
+    long(b"21 before 27", b' ', b"0 5 2 4 7\n1 1 1 1 1", 65536);
 }
 
 fn main() {
     granted();
-    refused();
-    precedence();
-    long(b"65,535 bytes", b'2', 65535);
-    long(b"21, 65,536 bytes", b'2', 65536);
-    long(b"22 in 65,535 bytes", b'x', 65535);
-    long(b"21 before 22", b'x', 65536);
+    granted_numbers();
+    refused_limits();
+    refused_bytes();
+    refused_numbers();
+    refused_headers();
+    refused_schedules();
+    faults_first();
+    headers_first();
+    longest();
+    longest_refused();
 }

@@ -53,10 +53,10 @@ returns-2 c =
     let fault = c .before .before .before .fault in
     let opening = c .before .before .before .before .before .before .before .before .opening-of .ensures ∙ row-opening text (head .result) (row .result) (head .ensures) (row .ensures) in
     let verdict : c .before .before .refused-or .result ≡ headerVerdict (length text) (marks text) =
-        c .before .before .refused-or .ensures
-        ∙ rw
-        (c .before .before .before .before .ruled-by2 .ensures, c .before .before .before .before .before .before .ruled-by .ensures, good .ensures)
-        (header-verdict (length text) (marks text) (c .before .before .before .before .before .before .before .before .before .before .before .if1 .left) (fault .result) (head .result .line) (row .result .count) _ (fault .ensures) (head .ensures .line) (row-count text (head .result) (row .result) (head .ensures) (row .ensures)) opening) in
+    c .before .before .refused-or .ensures
+    ∙ rw
+    (c .before .before .before .before .ruled-by2 .ensures, c .before .before .before .before .before .before .ruled-by .ensures, good .ensures)
+    (header-verdict (length text) (marks text) (c .before .before .before .before .before .before .before .before .before .before .before .if1 .left) (fault .result) (head .result .line) (row .result .count) _ (fault .ensures) (head .ensures .line) (row-count text (head .result) (row .result) (head .ensures) (row .ensures)) opening) in
     granted-heading text (head .result) (row .result) (head .ensures) (row .ensures) (c .before .before .before .before .before .before .before .before .before .before .before .if1 .left) _ _ (c .before .before .before .before .before .before .before .before .opening-of .ensures) verdict (eq-eqb _ 0 (c .if2 .taken))
 
 returns-3 : tie.Need-returns-3
@@ -68,10 +68,10 @@ returns-3 c =
     let fault = c .before .before .before .before .fault in
     let opening = c .before .before .before .before .before .before .before .before .before .opening-of .ensures ∙ row-opening text (head .result) (row .result) (head .ensures) (row .ensures) in
     let verdict : c .before .before .before .refused-or .result ≡ headerVerdict (length text) (marks text) =
-        c .before .before .before .refused-or .ensures
-        ∙ rw
-        (c .before .before .before .before .before .ruled-by2 .ensures, c .before .before .before .before .before .before .before .ruled-by .ensures, good .ensures)
-        (header-verdict (length text) (marks text) (c .before .before .before .before .before .before .before .before .before .before .before .before .if1 .left) (fault .result) (head .result .line) (row .result .count) _ (fault .ensures) (head .ensures .line) (row-count text (head .result) (row .result) (head .ensures) (row .ensures)) opening) in
+    c .before .before .before .refused-or .ensures
+    ∙ rw
+    (c .before .before .before .before .before .ruled-by2 .ensures, c .before .before .before .before .before .before .before .ruled-by .ensures, good .ensures)
+    (header-verdict (length text) (marks text) (c .before .before .before .before .before .before .before .before .before .before .before .before .if1 .left) (fault .result) (head .result .line) (row .result .count) _ (fault .ensures) (head .ensures .line) (row-count text (head .result) (row .result) (head .ensures) (row .ensures)) opening) in
     rw (c .no-opening2 .ensures) (refused-heading text _ verdict (ne-eqb _ 0 (c .before .if2 .left)))
 
 pub judge-header-spec : {M : Type 1} → statement M

@@ -39,7 +39,8 @@ returns c =
       from = l .inv .from;
       within = l .inv .within;
       same = stands text (l .i) (l .inside) (search needs) first ∙ l .inv .same;
-      first = λ h. stops-outside (l .inside) (classOf (getD text (l .i) 0)) first }
+      first = λ h. stops-outside (l .inside) (classOf (getD text (l .i) 0)) first;
+    }
 
 in-comment-requires : tie.Need-in-comment-requires Inv-loop μ-loop
 in-comment-requires c κs = search needs
@@ -59,7 +60,8 @@ loop-again c =
     record {
       from = omega arith;
       within = λ h. omega arith;
-      same = rw on (passes text (l .i) (l .inside) (search needs) other ∙ l .inv .same) }
+      same = rw on (passes text (l .i) (l .inside) (search needs) other ∙ l .inv .same);
+    }
 
 returns-2 : tie.Need-returns-2 Inv-loop μ-loop
 returns-2 c =
@@ -70,7 +72,8 @@ returns-2 c =
       from = l .inv .from;
       within = l .inv .within;
       same = at-end text (l .i) false past ∙ sym (at-end text (l .i) (l .inside) past) ∙ l .inv .same;
-      first = λ h. absurd (omega arith) }
+      first = λ h. absurd (omega arith);
+    }
 
 pub skipped-spec : {M : Type 1} → statement M
 skipped-spec =
