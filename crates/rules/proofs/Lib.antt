@@ -15,3 +15,13 @@ pub mod Range
 pub mod Moves
 pub mod Examples
 pub mod Demands
+pub mod Claims
+pub mod Batches
+pub mod Tree
+pub mod Onward
+pub mod Whole
+pub mod Sheets
+pub mod Sheet40
+pub mod Once
+pub mod Counting
+pub mod Listed

@@ -105,7 +105,7 @@ module _ (l : Ledger) (w : WF l) (r : Request) (asked : Asked (l .teams) (l .use
       (expanded-is y (record { mark = e .mark; parent = omega arith }))
       refl
 
-  fits : nodeIn r ≤ length (l .nodes)
+  pub fits : nodeIn r ≤ length (l .nodes)
   fits = omega (arith, asked .node .high, w .used-room, w .room-high, w .slots)
 
   stored : (y : Node) (k : ℕ) → natOf (r .kind) ≡ k → Leads x k y → Leads x (natOf (r .kind)) (at (put l n y) n)

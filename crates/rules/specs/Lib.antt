@@ -12,3 +12,7 @@ pub mod Requests
 pub mod Count
 pub mod Examples
 pub mod Demands
+pub mod Listing
+pub mod Sheets
+pub mod Sheet40
+pub mod Listed

@@ -1,0 +1,81 @@
+-- What a granted claim, mark or split says, with what it answers and does.
+use mathlib.Core.Path.{_≡_, refl}
+use mathlib.Core.Bool.{Bool, true, false, cond}
+use Prim.Native.Nat.{ℕ, _+_, _*_}
+use native.Mathlib.Omega.{arith}
+use lib.IntN.{pos, negsuc}
+use lib.ListN.{length}
+use Rattle.numbers.specs.Fields.{natOf}
+use Rattle.rules.specs.declared.Ledger.{Ledger}
+use Rattle.rules.specs.declared.Request.{Request}
+use Rattle.rules.specs.declared.Answered.{Answered}
+use Rattle.rules.specs.Limits.{maxNodes}
+use Rattle.rules.specs.Moves.{byKind}
+use Rattle.rules.specs.Nodes.{moved, parted, positionOf, middle, leftPart, rightPart}
+use Rattle.rules.specs.Requests.{refused, ranged, split, batchEnd, nodeIn, answered, requested}
+use Rattle.rules.specs.Sheet40.{IsGranted, ClaimGranted, MarkGranted, SplitGranted}
+use Rattle.rules.specs.Table.{at, put, stolenIn}
+use Rattle.rules.specs.WellFormed.{wellFormed}
+use Rattle.rules.proofs.Granted.{Asked, Advancing, Marking, Expanding, after as splitAt, Answers, refuses, owns, advances, marks, expands, looks, answers}
+use Rattle.rules.proofs.Record.{WF, rules}
+
+-- a request that is granted finds the ledger well formed, and so is answered by its own tests
+pub granted-answered : (l : Ledger) (r : Request) → requested l r .answer .code ≡ 0
+    → (wellFormed l ≡ true) × (requested l r ≡ answered l r)
+unfolding requested
+granted-answered l r = go (wellFormed l)
+  where
+    given : Bool → Answered
+    given b = cond b (answered l r) (record { ledger = l; answer = refused 1 })
+
+    go : (b : Bool) → given b .answer .code ≡ 0 → (b ≡ true) × (given b ≡ answered l r)
+    go true e = (refl, refl)
+    go false e = absurd (omega arith)
+
+pub record Claimed (l : Ledger) (r : Request) (a : Answered) : Type 0 where
+  pub asked : Asked (l .teams) (l .used) r
+  pub facts : Advancing (at l (nodeIn r)) r
+  pub ledger : a .ledger ≡ put l (nodeIn r) (moved (at l (nodeIn r)) (pos (batchEnd (at l (nodeIn r)) r)))
+  pub answer : a .answer ≡ ranged (positionOf (at l (nodeIn r))) (batchEnd (at l (nodeIn r)) r)
+
+pub record Marked (l : Ledger) (r : Request) (a : Answered) : Type 0 where
+  pub asked : Asked (l .teams) (l .used) r
+  pub facts : Marking (at l (nodeIn r)) r (l .used + 2 * stolenIn l) (l .room)
+  pub ledger : a .ledger ≡ put l (nodeIn r) (moved (at l (nodeIn r)) (negsuc (positionOf (at l (nodeIn r)))))
+
+pub record Parted (l : Ledger) (r : Request) (a : Answered) : Type 0 where
+  pub asked : Asked (l .teams) (l .used) r
+  pub facts : Expanding (at l (nodeIn r)) (l .used) (l .room)
+  pub ledger : a .ledger
+      ≡ splitAt l (nodeIn r) (parted (at l (nodeIn r)) (l .used + 1)) (leftPart (at l (nodeIn r))) (rightPart (at l (nodeIn r)))
+  pub answer : a .answer ≡ split (l .used + 1) (middle (at l (nodeIn r)))
+
+-- what is so of a granted request of a kind
+abbrev GrantedAs : ℕ → Ledger → Request → Answered → Type 0
+GrantedAs kind l r a = byKind kind (Unit {0}) (Claimed l r a) (Marked l r a) (Parted l r a) (Unit {0})
+
+granted-as : {l : Ledger} {r : Request} {a : Answered} → Answers l r a → a .answer .code ≡ 0 → GrantedAs (natOf (r .kind)) l r a
+granted-as (refuses ne) z = absurd (ne z)
+granted-as (owns k q f) z = rw k tt
+granted-as (advances k q f) z = rw k (record { asked = q; facts = f; ledger = refl; answer = refl })
+granted-as (marks k q f) z = rw k (record { asked = q; facts = f; ledger = refl })
+granted-as (expands k q f) z = rw k (record { asked = q; facts = f; ledger = refl; answer = refl })
+granted-as (looks k q) z = rw k tt
+
+module _ (l : Ledger) (r : Request) where
+  is-granted : (kind : ℕ) → IsGranted kind l r → GrantedAs kind l r (requested l r)
+  is-granted kind g =
+      let e = granted-answered l r (g .code-is) .1 in
+      rw (← g .kind-is, e) (granted-as (answers l r) (rw e at (g .code-is)))
+
+  pub is-claimed : ClaimGranted l r → Claimed l r (requested l r)
+  is-claimed g = is-granted 2 g
+
+  pub is-marked : MarkGranted l r → Marked l r (requested l r)
+  is-marked g = is-granted 3 g
+
+  pub is-parted : SplitGranted l r → Parted l r (requested l r)
+  is-parted g = is-granted 4 g
+
+  pub granted-wf : (kind : ℕ) → length (l .nodes) ≡ maxNodes → IsGranted kind l r → WF l
+  granted-wf kind slots g = rules l slots (granted-answered l r (g .code-is) .0)

@@ -1,0 +1,250 @@
+-- No sheet is granted twice: the nodes in which a sheet is unclaimed never become more, a batch that has it takes one away,
+-- and a new ledger has at most one.
+use mathlib.Core.Path.{_≡_, refl, ap}
+use mathlib.Core.Bool.{cond, _&&_}
+use mathlib.Core.List.{List, [], _∷_, _++_}
+use Prim.Native.Nat.{ℕ, zero, suc, _+_, _≤_, _<_}
+use native.Mathlib.Omega.{arith}
+use native.Mathlib.Decide.{ℕ-discrete, decLt, decLe}
+use lib.Dec.{leb, ltb}
+use lib.IntN.{pos, negsuc}
+use lib.ListN.{replicate}
+use borrow.Author.Tests.{eq-eqb, ne-eqb, le-leb, lt-leb, lt-ltb, le-ltb}
+use Rattle.numbers.specs.Fields.{natOf}
+use Rattle.rules.specs.declared.Node.{Node}
+use Rattle.rules.specs.declared.Ledger.{Ledger}
+use Rattle.rules.specs.declared.Opening.{Opening}
+use Rattle.rules.specs.declared.Request.{Request}
+use Rattle.rules.specs.declared.Answer.{Answer}
+use Rattle.rules.specs.declared.Answered.{Answered}
+use Rattle.rules.specs.Listing.{afterAll}
+use Rattle.rules.specs.Nodes.{blank, fresh, owned, moved, parted, childless, positionOf, middle, leftPart, rightPart}
+use Rattle.rules.specs.Opening.{opened, ledgerOf}
+use Rattle.rules.specs.Requests.{batchEnd, nodeIn, requested}
+use Rattle.rules.specs.Sheet40.{Inside, Gives, NeverGrantedTwice}
+use Rattle.rules.specs.Table.{at, put, sumBy}
+use Rattle.rules.proofs.Granted.{Asked, Advancing, Expanding, after as splitAt, Answers, refuses, owns, advances, marks, expands, looks, answers}
+use Rattle.rules.proofs.Keeps.{no-children, requested-wf}
+use Rattle.rules.proofs.Moves.{fits}
+use Rattle.rules.proofs.Onward.{requested-later, run-later}
+use Rattle.rules.proofs.Opens.{opened-wf}
+use Rattle.rules.proofs.Record.{WF}
+use Rattle.rules.proofs.Sheets.{begun}
+use Rattle.rules.proofs.Claims.{Claimed, is-claimed}
+use Rattle.rules.proofs.Split.{split-sum}
+use Rattle.rules.proofs.Sums.{sumBy-put}
+
+-- the sheet s is unclaimed in the node x
+record Free (s : ℕ) (x : Node) : Type 0 where
+  leaf : x .left ≡ 0
+  low : positionOf x ≤ s
+  high : s < x .until
+
+-- 1 where it is, 0 where it is not
+freeIn : ℕ → Node → ℕ
+freeIn s x = cond (childless x && leb (positionOf x) s && ltb s (x .until)) 1 0
+
+data Counts (s : ℕ) (x : Node) : ℕ → Type 0 where
+  one : Free s x → Counts s x 1
+  none : (Free s x → ⊥) → Counts s x 0
+
+module _ (s : ℕ) (x : Node) where
+  counts : Counts s x (freeIn s x)
+  unfolding freeIn
+  counts = go (ℕ-discrete (x .left) 0) (decLe (positionOf x) s) (decLt s (x .until))
+    where
+      go : Dec (x .left ≡ 0) → Dec (positionOf x ≤ s) → Dec (s < x .until)
+          → Counts s x (cond (childless x && leb (positionOf x) s && ltb s (x .until)) 1 0)
+      go (no ne) d e = rw (ne-eqb (x .left) 0 ne) (none (λ f. ne (f .leaf)))
+      go (yes z) (no k) e = rw (eq-eqb (x .left) 0 z, lt-leb (positionOf x) s (omega arith)) (none (λ f. k (f .low)))
+      go (yes z) (yes h) (no k) =
+          rw (eq-eqb (x .left) 0 z, le-leb (positionOf x) s h, le-ltb s (x .until) (omega arith)) (none (λ f. k (f .high)))
+      go (yes z) (yes h) (yes k) =
+          rw (eq-eqb (x .left) 0 z, le-leb (positionOf x) s h, lt-ltb s (x .until) k) (one (record { leaf = z; low = h; high = k }))
+
+  is-one : Free s x → freeIn s x ≡ 1
+  is-one f = go (freeIn s x) counts
+    where
+      go : (k : ℕ) → Counts s x k → k ≡ 1
+      go k (one g) = refl
+      go k (none n) = absurd (n f)
+
+  is-none : (Free s x → ⊥) → freeIn s x ≡ 0
+  is-none n = go (freeIn s x) counts
+    where
+      go : (k : ℕ) → Counts s x k → k ≡ 0
+      go k (one g) = absurd (n g)
+      go k (none m) = refl
+
+-- a and b share out sheets that are free in x
+shared : (s : ℕ) (x a b : Node) → (Free s a → Free s x) → (Free s b → Free s x) → (Free s a → Free s b → ⊥)
+    → freeIn s a + freeIn s b ≤ freeIn s x
+shared s x a b f g apart = go (freeIn s a) (freeIn s b) (freeIn s x) (counts s a) (counts s b) (counts s x)
+  where
+    go : (i j k : ℕ) → Counts s a i → Counts s b j → Counts s x k → i + j ≤ k
+    go i j k (one p) (one q) c = absurd (apart p q)
+    go i j k (one p) (none q) (one c) = omega arith
+    go i j k (one p) (none q) (none c) = absurd (c (f p))
+    go i j k (none p) (one q) (one c) = omega arith
+    go i j k (none p) (one q) (none c) = absurd (c (g q))
+    go i j k (none p) (none q) c = omega arith
+
+free-blank : (s : ℕ) → Free s blank → ⊥
+free-blank s f = let h = f .high in omega arith
+
+-- in how many nodes of the ledger the sheet is unclaimed
+freeAt : ℕ → Ledger → ℕ
+freeAt s l = sumBy (freeIn s) (l .nodes)
+
+-- ---- one request
+
+module _ (s : ℕ) (l : Ledger) (r : Request) (w : WF l) (asked : Asked (l .teams) (l .used) r) where
+  abbrev n : ℕ
+  n = nodeIn r
+
+  abbrev x : Node
+  x = at l n
+
+  abbrev y : Node
+  y = moved x (pos (batchEnd x r))
+
+  stored : (z : Node) → freeAt s (put l n z) + freeIn s x ≡ freeAt s l + freeIn s z
+  unfolding freeAt
+  stored z = sumBy-put (freeIn s) l n z (asked .node .low) (fits l w r asked)
+
+  -- an own or a mark moves nothing
+  kept : (z : Node) → freeIn s z ≡ freeIn s x → freeAt s (put l n z) ≤ freeAt s l
+  kept z e = omega (arith, stored z)
+
+  less-free : Advancing x r → freeIn s y + freeIn s blank ≤ freeIn s x
+  less-free f =
+      shared
+      s
+      x
+      y
+      blank
+      (λ g. record {
+        leaf = no-children l w r asked (f .here .plain);
+        low = omega (arith, g .low, f .end, w .alone n (asked .node .low) (asked .node .high) .high);
+        high = g .high;
+      })
+      (λ g. absurd (free-blank s g))
+      (λ g h. free-blank s h)
+
+  halves : Expanding x (l .used) (l .room) → freeIn s (leftPart x) + freeIn s (rightPart x) ≤ freeIn s x
+  unfolding leftPart rightPart middle
+  halves f =
+      shared
+      s
+      x
+      (leftPart x)
+      (rightPart x)
+      (λ g. record { leaf = f .leaf; low = g .low; high = omega (arith, g .high, w .alone n (asked .node .low) (asked .node .high) .high) })
+      (λ g. record { leaf = f .leaf; low = omega (arith, g .low); high = g .high })
+      (λ g h. omega (arith, g .high, h .low))
+
+  split-free : Expanding x (l .used) (l .room) → freeAt s (splitAt l n (parted x (l .used + 1)) (leftPart x) (rightPart x)) ≤ freeAt s l
+  unfolding freeAt
+  split-free f =
+      omega
+      (arith, halves f, is-none s (parted x (l .used + 1)) (λ g. let e = g .leaf in omega arith), split-sum l n (parted x (l .used + 1)) (leftPart x) (rightPart x) (asked .node .low) (asked .node .high) (omega (arith, f .fits, w .room-high, w .slots)) (freeIn s))
+
+answers-free : {l : Ledger} {r : Request} {a : Answered} (s : ℕ) → WF l → Answers l r a → freeAt s (a .ledger) ≤ freeAt s l
+unfolding freeIn
+answers-free s w (refuses ne) = omega arith
+answers-free {l} {r} s w (owns k q f) = kept s l r w q (owned (at l (nodeIn r)) (natOf (r .team))) refl
+answers-free {l} {r} s w (advances k q f) = omega (arith, less-free s l r w q f, stored s l r w q (moved (at l (nodeIn r)) (pos (batchEnd (at l (nodeIn r)) r))))
+answers-free {l} {r} s w (marks k q f) = kept s l r w q (moved (at l (nodeIn r)) (negsuc (positionOf (at l (nodeIn r))))) refl
+answers-free {l} {r} s w (expands k q f) = split-free s l r w q f
+answers-free s w (looks k q) = omega arith
+
+requested-free : (s : ℕ) (l : Ledger) (r : Request) → WF l → freeAt s (requested l r .ledger) ≤ freeAt s l
+requested-free s l r w = rw (requested-wf l r w) (answers-free s w (answers l r))
+
+run-free : (s : ℕ) (l : Ledger) (rs : List Request) → WF l → freeAt s (afterAll l rs) ≤ freeAt s l
+unfolding afterAll
+run-free s l [] w = omega arith
+run-free s l (r ∷ rs) w =
+    let k = requested l r .ledger in
+    omega (arith, requested-free s l r w, run-free s k rs (requested-later l r w .wf))
+
+-- a batch that has the sheet takes it away
+module _ (s : ℕ) (l : Ledger) (r : Request) (w : WF l) (g : Gives l r s) where
+  c : Claimed l r (requested l r)
+  c = is-claimed l r (g .claim)
+
+  abbrev u : Node
+  u = at l (nodeIn r)
+
+  abbrev v : Node
+  v = moved u (pos (batchEnd u r))
+
+  inside : Inside s (positionOf u) (batchEnd u r)
+  inside =
+      let a = ap (λ (a : Answer). a .from) (c .answer) in
+      let b = ap (λ (a : Answer). a .to) (c .answer) in
+      let i = g .inside in
+      record { low = omega arith; high = omega arith }
+
+  was : Free s u
+  was =
+      let i = inside in
+      record {
+        leaf = no-children l w r (c .asked) (c .facts .here .plain);
+        low = i .low;
+        high = omega (arith, c .facts .end);
+      }
+
+  gone : Free s v → ⊥
+  gone f = omega (arith, f .low, inside .high)
+
+  taken : freeAt s (requested l r .ledger) + 1 ≤ freeAt s l
+  taken = rw (c .ledger) (omega (arith, stored s l r w (c .asked) v, is-one s u was, is-none s v gone))
+
+-- ---- a run
+
+-- with k slots besides the root's: a variable, so that no proof counts them out
+blanks : (s k : ℕ) → sumBy (freeIn s) (replicate k blank) ≡ 0
+unfolding sumBy
+blanks s zero = refl
+blanks s (suc k) = omega (arith, is-none s blank (free-blank s), blanks s k)
+
+at-most-one : (s k : ℕ) (x : Node) → sumBy (freeIn s) (x ∷ replicate k blank) ≤ 1
+unfolding sumBy
+at-most-one s k x = go (freeIn s x) (counts s x)
+  where
+    go : (i : ℕ) → Counts s x i → i + sumBy (freeIn s) (replicate k blank) ≤ 1
+    go i (one f) = omega (arith, blanks s k)
+    go i (none f) = omega (arith, blanks s k)
+
+begun-free : (s : ℕ) (o : Opening) → freeAt s (ledgerOf o) ≤ 1
+unfolding freeAt opened
+begun-free s o = at-most-one s 1022 (fresh (natOf (o .start)) (natOf (o .until)))
+
+after-append : (l : Ledger) (rs qs : List Request) → afterAll l (rs ++ qs) ≡ afterAll (afterAll l rs) qs
+unfolding afterAll
+after-append l [] qs = refl
+after-append l (r ∷ rs) qs = after-append (requested l r .ledger) rs qs
+
+module _ (l : Ledger) (w : WF l) (before between : List Request) (r q : Request) (s : ℕ) (few : freeAt s l ≤ 1) where
+  abbrev k : Ledger
+  k = afterAll l before
+
+  wf-k : WF k
+  wf-k = run-later l before w .wf
+
+  not-twice : Gives k r s → Gives (afterAll k (r ∷ between)) q s → ⊥
+  unfolding afterAll
+  not-twice g h =
+      let a = requested-later k r wf-k .wf in
+      let b = run-later (requested k r .ledger) between a .wf in
+      omega
+      (arith, run-free s l before w, taken s k r wf-k g, run-free s (requested k r .ledger) between a, taken s (afterAll (requested k r .ledger) between) q b h)
+
+pub never-granted-twice : NeverGrantedTwice
+never-granted-twice o before between r q s e =
+    let b = begun o e in
+    let l = ledgerOf o in
+    rw
+    (b .ledger, after-append l before (r ∷ between))
+    (not-twice l (opened-wf o (b .good)) before between r q s (begun-free s o))

@@ -1,0 +1,214 @@
+-- The student's three steps, and the answer, proved.
+use mathlib.Core.Path.{_≡_, refl, sym, ap, _∙_}
+use mathlib.Core.Logic.{_⊎_, inl, inr}
+use mathlib.Core.Bool.{true≢false}
+use mathlib.Core.List.{List, _∷_}
+use Prim.Native.Nat.{ℕ, _+_, _≤_, _<_}
+use native.Mathlib.Omega.{arith}
+use native.Mathlib.Decide.{decLt}
+use lib.IntN.{pos, negsuc}
+use lib.ListN.{length}
+use Rattle.numbers.specs.Progress.{negative, position}
+use Rattle.numbers.specs.Fields.{natOf}
+use Rattle.rules.specs.declared.Node.{Node}
+use Rattle.rules.specs.declared.Ledger.{Ledger}
+use Rattle.rules.specs.declared.Request.{Request}
+use Rattle.rules.specs.declared.Answer.{Answer}
+use Rattle.rules.specs.Limits.{maxNodes}
+use Rattle.rules.specs.Listing.{afterAll}
+use Rattle.rules.specs.Nodes.{moved, parted, positionOf, middle, leftPart, rightPart}
+use Rattle.rules.specs.Requests.{batchEnd, nodeIn, requested}
+use Rattle.rules.specs.Sheet40.{ClaimGranted, MarkGranted, SplitGranted, InBatch, InNode, ClaimStands, MarkReadBack, MarkIsFinal, SharedOut, SplitStartsAtMark, SamePlace, ToClaimer, ToStealer, HerAnswer}
+use Rattle.rules.specs.Table.{at, put, grown}
+use Rattle.rules.proofs.Batches.{sheets-join}
+use Rattle.rules.proofs.Granted.{Asked}
+use Rattle.rules.proofs.Moves.{fits}
+use Rattle.rules.proofs.Nodes.{at-same}
+use Rattle.rules.proofs.Onward.{Onward, requested-later, run-later}
+use Rattle.rules.proofs.Record.{WF}
+use Rattle.rules.proofs.Split.{split-left, split-right}
+use Rattle.rules.proofs.Claims.{Claimed, Parted, is-claimed, is-marked, is-parted, granted-wf}
+
+-- ---- the first step
+
+pub claim-stands : ClaimStands
+claim-stands l r g =
+    let c = is-claimed l r g in
+    let h = c .facts .here in
+    record { unmarked = h .plain; stands = h .same; «from» = rw (c .answer) (sym (h .progress-is)) }
+
+-- ---- the second step
+
+pub mark-read-back : MarkReadBack
+mark-read-back l r slots g =
+    let w = granted-wf l r 3 slots g in
+    let m = is-marked l r g in
+    let h = m .facts .here in
+    rw
+    (m .ledger, at-same l (nodeIn r) (moved (at l (nodeIn r)) (negsuc (positionOf (at l (nodeIn r))))) (m .asked .node .low) (fits l w r (m .asked)))
+    (record { mark = refl; back = sym (h .same ∙ h .progress-is) })
+
+-- the node that a granted request names is in use then and later, and only moves onward
+module _ (l : Ledger) (r : Request) (between : List Request) (w : WF l) (asked : Asked (l .teams) (l .used) r) where
+  onward-since : Onward (at (requested l r .ledger) (nodeIn r)) (at (afterAll l (r ∷ between)) (nodeIn r))
+  unfolding afterAll
+  onward-since =
+      let a = requested-later l r w in
+      run-later (requested l r .ledger) between (a .wf) .each (nodeIn r) (asked .node .low) (omega (arith, asked .node .high, a .used))
+
+pub mark-is-final : MarkIsFinal
+mark-is-final l mark claim between slots same g c =
+    let w = granted-wf l mark 3 slots g in
+    let b = mark-read-back l mark slots g in
+    let o = onward-since l mark between w (is-marked l mark g .asked) in
+    let plain = rw same at (claim-stands (afterAll l (mark ∷ between)) claim c .unmarked) in
+    true≢false (sym (b .mark) ∙ ap negative (sym (o .stands (b .mark))) ∙ plain)
+
+-- ---- the third step
+
+pub split-starts-at-mark : SplitStartsAtMark
+unfolding leftPart rightPart middle
+split-starts-at-mark l r slots g =
+    let w = granted-wf l r 4 slots g in
+    let p = is-parted l r g in
+    let x = at l (nodeIn r) in
+    let low = p .asked .node .low in
+    let high = p .asked .node .high in
+    let room : l .used + 2 ≤ length (l .nodes) = omega (arith, p .facts .fits, w .room-high, w .slots) in
+    rw
+    (p .ledger, p .answer, split-left l (nodeIn r) (parted x (l .used + 1)) (leftPart x) (rightPart x) low high room, split-right l (nodeIn r) (parted x (l .used + 1)) (leftPart x) (rightPart x) low high room)
+    (record {
+      mark = p .facts .mark;
+      left-start = refl;
+      left-until = refl;
+      right-start = refl;
+      right-until = refl;
+      exactly = sheets-join _ _ _ (omega arith) (omega (arith, w .alone (nodeIn r) low high .high));
+    })
+
+-- the new nodes are in use, and whatever follows their ranges stay: one of the two has the position
+module _ (l : Ledger) (r : Request) (later : List Request) (w : WF l) (g : SplitGranted l r) where
+  abbrev left : ℕ
+  left = requested l r .answer .left
+
+  abbrev next : Ledger
+  next = afterAll l (r ∷ later)
+
+  left-is : left ≡ l .used + 1
+  left-is = ap (λ (a : Answer). a .left) (is-parted l r g .answer)
+
+  new-onward : (m : ℕ) → 1 ≤ m → m ≤ left + 1 → Onward (at (requested l r .ledger) m) (at next m)
+  unfolding afterAll grown put
+  new-onward m low high =
+      let h : m ≤ requested l r .ledger .used = rw (is-parted l r g .ledger) (omega (arith, left-is)) in
+      run-later (requested l r .ledger) later (requested-later l r w .wf) .each m low h
+
+  position-in-half : (s : ℕ) → s ≡ positionOf (at l (nodeIn r))
+      → InNode s (at next left) ⊎ InNode s (at next (left + 1))
+  position-in-half s e = go (decLt s (middle x))
+    where
+      x : Node
+      x = at l (nodeIn r)
+
+      p : Parted l r (requested l r)
+      p = is-parted l r g
+
+      some : 1 ≤ left
+      some = omega (arith, left-is)
+
+      o : SharedOut x (at (requested l r .ledger) left) (at (requested l r .ledger) (left + 1))
+      o = split-starts-at-mark l r (w .slots) g
+
+      a : Onward (at (requested l r .ledger) left) (at next left)
+      a = new-onward left some (omega arith)
+
+      b : Onward (at (requested l r .ledger) (left + 1)) (at next (left + 1))
+      b = new-onward (left + 1) (omega arith) (omega arith)
+
+      unclaimed : s < x .until
+      unclaimed = omega (arith, w .alone (nodeIn r) (p .asked .node .low) (p .asked .node .high) .two-left (p .facts .mark))
+
+      go : Dec (s < middle x)
+          → InNode s (at next left) ⊎ InNode s (at next (left + 1))
+      go (yes h) =
+          inl (record {
+            low = omega (arith, a .start, o .left-start);
+            high = omega (arith, a .until, o .left-until);
+          })
+      go (no h) =
+          inr (record {
+            low = omega (arith, b .start, o .right-start);
+            high = omega (arith, b .until, o .right-until, unclaimed);
+          })
+
+-- ---- the answer
+
+module _ (l : Ledger) (claim steal : Request) (between : List Request) (slots : length (l .nodes) ≡ maxNodes)
+    (place : SamePlace claim steal) where
+  -- the position has passed the sheet, and never returns
+  to-claimer : ClaimGranted l claim → ToClaimer l claim steal between
+  to-claimer g = record { granted = inside; refused = refused }
+    where
+      n : ℕ
+      n = nodeIn claim
+
+      k : Ledger
+      k = afterAll l (claim ∷ between)
+
+      w : WF l
+      w = granted-wf l claim 2 slots g
+
+      c : Claimed l claim (requested l claim)
+      c = is-claimed l claim g
+
+      passed : natOf (claim .position) < batchEnd (at l n) claim
+      passed =
+          let h = c .facts .here in
+          omega
+          (arith, h .position-is, c .facts .end, c .facts .amount .low, h .more, w .alone n (c .asked .node .low) (c .asked .node .high) .high)
+
+      inside : InBatch (natOf (claim .position)) (requested l claim .answer)
+      inside = rw (c .answer) (record { low = omega (arith, c .facts .here .position-is); high = passed })
+
+      beyond : natOf (claim .position) < positionOf (at k n)
+      beyond =
+          let y = moved (at l n) (pos (batchEnd (at l n) claim)) in
+          let o : Onward y (at k n) =
+          rw (c .ledger, at-same l n y (c .asked .node .low) (fits l w claim (c .asked))) at (onward-since l claim between w (c .asked)) in
+          omega (arith, passed, o .forward)
+
+      refused : MarkGranted k steal → ⊥
+      refused m =
+          let h = is-marked k steal m .facts .here in
+          let e : natOf (claim .position) ≡ positionOf (at k n) = ap natOf (place .position) ∙ h .position-is ∙ rw (place .node) in
+          omega (arith, beyond)
+
+  -- the mark stands, and the split starts there
+  to-stealer : MarkGranted l steal → ToStealer l claim steal between
+  to-stealer g =
+      record {
+        refused = mark-is-final l steal claim between slots (place .node) g;
+        moved = λ split later same h. position-in-half k split later later-wf h (natOf (steal .position)) (rw same marked-at);
+      }
+    where
+      n : ℕ
+      n = nodeIn steal
+
+      k : Ledger
+      k = afterAll l (steal ∷ between)
+
+      w : WF l
+      w = granted-wf l steal 3 slots g
+
+      marked-at : natOf (steal .position) ≡ positionOf (at k n)
+      marked-at =
+          let b = mark-read-back l steal slots g in
+          let o = onward-since l steal between w (is-marked l steal g .asked) in
+          ap natOf (sym (b .back)) ∙ ap position (sym (o .stands (b .mark)))
+
+      later-wf : WF k
+      later-wf = run-later l (steal ∷ between) w .wf
+
+pub her-answer : HerAnswer
+her-answer l claim steal between slots place =
+    (to-claimer l claim steal between slots place, to-stealer l claim steal between slots place)
