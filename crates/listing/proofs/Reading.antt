@@ -3,7 +3,7 @@ use mathlib.Core.Path.{_≡_, refl, sym, ap, ap₂, _∙_}
 use mathlib.Core.Logic.{_≢_}
 use mathlib.Core.Bool.{Bool, true, false, cond}
 use mathlib.Core.List.{List, [], _∷_, _++_, map}
-use Prim.Native.Nat.{ℕ, zero, suc, _+_, _≤_, _<_}
+use Prim.Native.Nat.{ℕ, zero, suc, _≤_, _<_, min}
 use native.Mathlib.Omega.{arith}
 use lib.IntN.{ℤ, pos}
 use lib.ListN.{length, getD, take, drop, length-map, length-append}
@@ -11,7 +11,7 @@ use lib.Seq.{take-at}
 use borrow.Author.Tests.{eq-eqb, ne-eqb}
 use Rattle.numbers.specs.Progress.{signed}
 use Rattle.numbers.specs.Fields.{natOf, within}
-use Rattle.numbers.proofs.Laws.{signed-is, within-made}
+use Rattle.numbers.proofs.Laws.{within-made}
 use Rattle.rules.proofs.Opens.{opens-facts}
 use Rattle.text.specs.declared.Schedule.{Schedule}
 use Rattle.text.specs.Marks.{marks}
@@ -30,7 +30,7 @@ use Rattle.listing.specs.Table.{Runnable}
 front-teams : (teams : ℕ) (ns : List ℕ) (rest : List ℤ) → teams ≤ 2147483647 → AllTeams teams ns
     → (i : ℕ) → i < length ns → within (getD (map signed ns ++ rest) i (pos 0)) 1 teams ≡ true
 front-teams teams [] rest h none i less = absurd (omega arith)
-front-teams teams (n ∷ ns) rest h (more low high all) zero less = rw (signed-is n (omega arith)) (within-made n 1 teams low high)
+front-teams teams (n ∷ ns) rest h (more low high all) zero less = within-made (min n 2147483647) 1 teams (omega arith) (omega arith)
 front-teams teams (n ∷ ns) rest h (more low high all) (suc i) less = front-teams teams ns rest h all i (omega arith)
 
 module _ (bytes : List ℕ) (area later : List ℤ) (s : Schedule) (is : s ≡ scheduleOf (length area) bytes) (filled-is : later ≡ areaOf bytes area)
