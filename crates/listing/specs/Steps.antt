@@ -1,0 +1,64 @@
+-- "The open line comes first; then, in step order, a batch line for each granted advance and a split line for each granted expand, nothing
+-- for any other step; the left line ends it."
+use Prim.Native.Nat.{ℕ}
+use mathlib.Core.Bool.{Bool, cond, _&&_}
+use mathlib.Core.List.{List, [], _∷_, _++_}
+use lib.Dec.{eqb}
+use lib.IntN.{ℤ}
+use Rattle.numbers.specs.Progress.{signed}
+use Rattle.rules.specs.declared.Opening.{Opening}
+use Rattle.rules.specs.declared.Answer.{Answer}
+use Rattle.rules.specs.declared.Ledger.{Ledger}
+use Rattle.rules.specs.Limits.{maxTeams}
+use Rattle.rules.specs.Count.{unclaimed}
+use Rattle.steps.specs.declared.Stepped.{Stepped}
+use Rattle.steps.specs.declared.Team.{Team}
+use Rattle.steps.specs.Places.{scan}
+use Rattle.steps.specs.Step.{lentStep}
+use Rattle.steps.specs.Run.{Run, begun, stepTeam, runTeams, stoppedTeams}
+use Rattle.lines.specs.Line.{Line, openLine, batchLine, splitLine, leftLine}
+
+-- "Fields: the header's numbers; batch team node from to; split node left middle; unclaimed count and stopped teams."
+
+abbrev pub headLine : Opening → Line
+headLine o = openLine (o .start) (o .until) (o .teams) (o .cap) (o .nodes)
+
+-- a request of that kind, which was granted
+abbrev pub grants : ℕ → ℕ → Answer → Bool
+grants wanted kind a = eqb kind wanted && eqb (a .code) 0
+
+-- The line of a step of a team, by the kind and node of its request and by the answer, or none. The line writer takes signed numbers, and
+-- no number of a run is past the largest of them.
+unfoldable pub noteOf : ℤ → ℕ → ℕ → Answer → List Line
+noteOf team kind node a =
+    cond (grants 2 kind a) (batchLine team (signed node) (signed (a .«from»)) (signed (a .to)) ∷ [])
+    (cond (grants 4 kind a) (splitLine (signed node) (signed (a .left)) (signed (a .«from»)) ∷ [])
+    [])
+
+abbrev pub stepLine : ℤ → Stepped → List Line
+stepLine team s = noteOf team (s .kind) (s .node) (s .answer)
+
+-- ---- the run: a new ledger, a fresh record for each team there can be, and teams that scan
+
+abbrev pub runFrom : ℤ → Run → List ℤ → Run
+runFrom cap u schedule = runTeams (λ t. scan) cap u schedule
+
+unfoldable pub notes : ℤ → Run → List ℤ → List Line
+notes cap u [] = []
+notes cap u (team ∷ later) =
+    stepLine team (lentStep scan (u .ledger) team cap (u .records)) ++ notes cap (stepTeam (λ t. scan) cap u team) later
+
+abbrev pub lastLine : Run → Line
+lastLine u = leftLine (signed (unclaimed (u .ledger))) (signed (stoppedTeams u))
+
+abbrev pub runWith : Ledger → List Team → Run
+runWith l rs = record { ledger = l; records = rs }
+
+abbrev pub startOf : Opening → Run
+startOf o = begun o maxTeams
+
+abbrev pub endOf : Opening → List ℤ → Run
+endOf o schedule = runFrom (o .cap) (startOf o) schedule
+
+unfoldable pub runLines : Opening → List ℤ → List Line
+runLines o schedule = headLine o ∷ (notes (o .cap) (startOf o) schedule ++ (lastLine (endOf o schedule) ∷ []))
