@@ -18,10 +18,12 @@ use Rattle.numbers.specs.Progress.{signed}
 use Rattle.rules.specs.declared.Answer.{Answer}
 use Rattle.lines.specs.declared.Written.{Written}
 use Rattle.lines.specs.Line.{Line, batchLine, splitLine, wordOf, partsOf, whole, anyNegative}
-use Rattle.lines.specs.Written.{granted, refused, refusal, answerTo, answer, after}
+use Rattle.lines.specs.Written.{refusal, areaAfter, answer, after}
+use Rattle.lines.proofs.Answer.{answer-within}
 use Rattle.listing.specs.declared.Listed.{Listed}
 use Rattle.listing.specs.Steps.{grants, noteOf}
-use Rattle.listing.specs.Paper.{Paper, paper, printed, printedAll}
+use Rattle.listing.specs.Listing.{linesOf}
+use Rattle.listing.specs.Paper.{Paper, paper, blankPaper, restOf, written, printed, printedAll, listed, paperOf, answerTo}
 
 -- ---- lines one after the other
 
@@ -61,9 +63,9 @@ module _ (team : ℤ) (kind node : ℕ) (a : Answer) where
 -- ---- one line more
 
 -- after a refusal nothing
-pub no-more : (d : List ℕ) (done : Listed) (l : Line) → done .code ≢ 0 → paper d done ≡ printed (paper d done) l
+pub still : (p : Paper) (l : Line) → p .code ≢ 0 → printed p l ≡ p
 unfolding printed
-no-more d done l some = rw (ne-eqb (done .code) 0 some)
+still p l some = rw (ne-eqb (p .code) 0 some)
 
 -- a part that goes to the end, and such a part put back
 mid-end : (d : List ℕ) (at : ℕ) → midOf at (length d - at) d ≡ drop at d
@@ -74,19 +76,7 @@ back-end d later at h =
     ap (λ (z : List ℕ). take at d ++ (later ++ z)) (post-is at (length d) d h ∙ drop-length d) ∙ simp append-nil
 
 pub answer-fits : (l : Line) (room : ℕ) → answer l room .length ≤ room
-unfolding answerTo refusal
-answer-fits l room = go (anyNegative (partsOf l)) (ltb room n) (ltb-false room n)
-  where
-    n : ℕ
-    n = length (whole (wordOf l) (partsOf l))
-
-    code : Bool → Bool → ℕ
-    code a b = cond a 25 (cond b 28 0)
-
-    go : (a b : Bool) → (b ≡ false → n ≤ room) → cond (eqb (code a b) 0) (granted n) (refused (code a b)) .length ≤ room
-    go true b h = omega arith
-    go false true h = omega arith
-    go false false h = h refl
+answer-fits l room = answer-within (wordOf l) (partsOf l) room
 
 module _ (d later : List ℕ) (done : Listed) (l : Line) (w : Written) (inside : done .length ≤ length d)
     (answered : w ≡ answer l (length (midOf (done .length) (length d - done .length) d))) where
@@ -108,3 +98,66 @@ module _ (d later : List ℕ) (done : Listed) (l : Line) (w : Written) (inside :
       → paper (putMid at (length d - at) d later) (record { code = w .code; length = at + w .length }) ≡ printed (paper d done) l
   unfolding printed
   line-more good written = rw (back-end d later at inside, written, answered, eq-eqb (done .code) 0 good, mid-end d at)
+
+-- ---- the area keeps its length, and what is written stays inside
+
+after-length : (l : Line) (area : List ℕ) → length (after l area) ≡ length area
+unfolding areaAfter refusal
+after-length l area = go (anyNegative (partsOf l)) (ltb (length area) (length w)) (ltb-false (length area) (length w))
+  where
+    w : List ℕ
+    w = whole (wordOf l) (partsOf l)
+
+    code : Bool → Bool → ℕ
+    code a b = cond a 25 (cond b 28 0)
+
+    go : (a b : Bool) → (b ≡ false → length w ≤ length area)
+        → length (cond (eqb (code a b) 0) (w ++ drop (length w) area) area) ≡ length area
+    go true b h = refl
+    go false true h = refl
+    go false false h = let k : length w ≤ length area = h refl in rw length-append (omega (arith, length-drop (length w) area))
+
+pub record Inside (n : ℕ) (p : Paper) : Type 0 where
+  pub same : length (p .area) ≡ n
+  pub within : p .length ≤ n
+
+inside-more : {n : ℕ} (p : Paper) (l : Line) → Inside n p → Inside n (printed p l)
+unfolding printed
+inside-more {n} p l i = go (eqb (p .code) 0)
+  where
+    go : (b : Bool) → Inside n (cond b (written p l) p)
+    go false = i
+    go true =
+        let f = answer-fits l (length (restOf p)) in
+        let a = after-length l (restOf p) in
+        let r = length-drop (p .length) (p .area) in
+        let t = length-take-le (p .length) (p .area) (omega (arith, i .same, i .within)) in
+        record { same = rw length-append (omega (arith, i .same, i .within)); within = omega (arith, i .same, i .within) }
+
+pub inside-all : {n : ℕ} (p : Paper) (ls : List Line) → Inside n p → Inside n (printedAll p ls)
+unfolding printedAll
+inside-all p [] i = i
+inside-all p (l ∷ ls) i = inside-all (printed p l) ls (inside-more p l i)
+
+-- the length that is answered is one of the area
+answered-inside : (n code k : ℕ) → k ≤ n → listed code k .length ≤ n
+unfolding listed
+answered-inside n code k h = go (eqb code 0)
+  where
+    go : (b : Bool) → cond b k 0 ≤ n
+    go true = h
+    go false = omega arith
+
+pub answer-inside : (room : ℕ) (bytes area : List ℕ) → answerTo room bytes area .length ≤ length area
+unfolding paperOf
+answer-inside room bytes area =
+    let i : Inside (length area) (printedAll (blankPaper area) (linesOf room bytes)) =
+    inside-all (blankPaper area) (linesOf room bytes) (record { same = refl; within = omega arith }) in
+    answered-inside (length area) _ _ (i .within)
+
+pub area-kept : (room : ℕ) (bytes area : List ℕ) → length (paperOf room bytes area .area) ≡ length area
+unfolding paperOf
+area-kept room bytes area =
+    let i : Inside (length area) (printedAll (blankPaper area) (linesOf room bytes)) =
+    inside-all (blankPaper area) (linesOf room bytes) (record { same = refl; within = omega arith }) in
+    i .same

@@ -20,8 +20,19 @@ fn write(area: &mut [u8], e: Entry) -> Written
     ensures { λ _. ⌜ now (area .exit) ≡ after (lineOf e) (now (area .entry)) ⌝ }
 {
     match e {
-        Entry::Open { start, until, teams, cap, nodes } => lines::open_line(area, start, until, teams, cap, nodes),
-        Entry::Batch { team, node, from, to } => lines::batch_line(area, team, node, from, to),
+        Entry::Open {
+            start,
+            until,
+            teams,
+            cap,
+            nodes,
+        } => lines::open_line(area, start, until, teams, cap, nodes),
+        Entry::Batch {
+            team,
+            node,
+            from,
+            to,
+        } => lines::batch_line(area, team, node, from, to),
         Entry::Split { node, left, middle } => lines::split_line(area, node, left, middle),
         Entry::Left { count, stopped } => lines::left_line(area, count, stopped),
         Entry::Refused { code, line } => lines::refused_line(area, code, line),
@@ -39,7 +50,10 @@ pub(crate) fn print(out: &mut [u8], done: Listed, e: Entry) -> Listed
     }
     let at = done.length;
     let w = write(&mut out[at..], e);
-    Listed { code: w.code, length: at + w.length }
+    Listed {
+        code: w.code,
+        length: at + w.length,
+    }
 }
 
 // The line of a step, where it has one.
@@ -53,11 +67,28 @@ pub(crate) fn note(out: &mut [u8], done: Listed, team: i32, t: Turned) -> Listed
     let from = numbers::to_signed(a.from);
     if (t.kind == 2) & (a.code == 0) {
         let to = numbers::to_signed(a.to);
-        return print(out, done, Entry::Batch { team: team, node: node, from: from, to: to });
+        return print(
+            out,
+            done,
+            Entry::Batch {
+                team: team,
+                node: node,
+                from: from,
+                to: to,
+            },
+        );
     }
     if (t.kind == 4) & (a.code == 0) {
         let left = numbers::to_signed(a.left);
-        return print(out, done, Entry::Split { node: node, left: left, middle: from });
+        return print(
+            out,
+            done,
+            Entry::Split {
+                node: node,
+                left: left,
+                middle: from,
+            },
+        );
     }
     done
 }
@@ -86,7 +117,14 @@ pub(crate) fn refusal(out: &mut [u8], done: Listed, code: u32, line: u32) -> Lis
 {
     let code = numbers::to_signed(code);
     let line = numbers::to_signed(line);
-    print(out, done, Entry::Refused { code: code, line: line })
+    print(
+        out,
+        done,
+        Entry::Refused {
+            code: code,
+            line: line,
+        },
+    )
 }
 
 // The answer: no length where a line was refused.

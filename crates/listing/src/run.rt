@@ -13,9 +13,9 @@ ghost use Rattle.steps.specs.Run.{stoppedTo};
 ghost use Rattle.listing.specs.Steps.{startOf, runWith, notes, lastLine, endOf};
 ghost use Rattle.listing.specs.Paper.{paper, printed, printedAll};
 ghost use Rattle.listing.specs.Table.{Runnable, slotFor, nodeFor, viewBy};
-use crate::paper;
 use crate::Entry;
 use crate::Listed;
+use crate::paper;
 use rules::Change;
 use rules::Ledger;
 use rules::Node;
@@ -54,7 +54,14 @@ fn view_by(teams: u32, room: u32, used: u32, stolen: u32, x: Node) -> View
     requires { ⌜ used ≤ 1023 ⌝ }
     ensures { λ r. ⌜ r ≡ viewBy teams room used stolen x ⌝ }
 {
-    View { teams: teams, room: room, used: used, stolen: stolen, pair: used + 1, node: x }
+    View {
+        teams: teams,
+        room: room,
+        used: used,
+        stolen: stolen,
+        pair: used + 1,
+        node: x,
+    }
 }
 
 // The STOLEN count after a store of `new` over `old`.
@@ -111,11 +118,24 @@ fn close(out: &mut [u8], done: Listed, book: Ledger, teams: [Team; 32]) -> Liste
     let rest = ledger::count(book);
     let count = as_field(rest.count);
     let stopped = numbers::to_signed(stopped_in(teams, book.teams));
-    paper::print(out, done, Entry::Left { count: count, stopped: stopped })
+    paper::print(
+        out,
+        done,
+        Entry::Left {
+            count: count,
+            stopped: stopped,
+        },
+    )
 }
 
 // The lines of a run, after the open line: a line for each step that has one, and the left line.
-pub(crate) fn run(schedule: &[i32], count: usize, o: Opening, out: &mut [u8], done: Listed) -> Listed
+pub(crate) fn run(
+    schedule: &[i32],
+    count: usize,
+    o: Opening,
+    out: &mut [u8],
+    done: Listed,
+) -> Listed
     requires { ⌜ Runnable o count (now schedule) × (done .length ≤ length (now out)) ⌝ }
     ensures { λ r. ⌜ paper (now (out .exit)) r ≡ printedAll (paper (now (out .entry)) done) (notes (o .cap) (startOf o) (take count (now (schedule .entry))) ++ (lastLine (endOf o (take count (now (schedule .entry)))) ∷ [])) ⌝ }
 {
@@ -146,7 +166,12 @@ pub(crate) fn run(schedule: &[i32], count: usize, o: Opening, out: &mut [u8], do
                 stolen = recount(stolen, node, x);
                 book.nodes[place] = x;
             }
-            Change::Split { parent, pair, left, right } => {
+            Change::Split {
+                parent,
+                pair,
+                left,
+                right,
+            } => {
                 stolen = recount(stolen, node, parent);
                 book.nodes[place] = parent;
                 let a = (pair - 1) as usize;

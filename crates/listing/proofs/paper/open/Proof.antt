@@ -16,8 +16,8 @@ returns c =
     let o = c .before .before .before .before .before .before .args .o in
     let p = c .before .before .print .ensures in (
       simp
-      (held (o .start) (record { sfits = f .0 .1 }), held (o .until) (record { sfits = f .1 .0 .1 }), held (o .teams) (record { sfits = f .1 .1 .0 .1 }), held (o .cap) (record { sfits = f .1 .1 .1 .0 .1 }), held (o .nodes) (record { sfits = f .1 .1 .1 .1 .0 .1 }))
-      at (p .0),
+          (held (o .start) (record { sfits = f .0 .1 }), held (o .until) (record { sfits = f .1 .0 .1 }), held (o .teams) (record { sfits = f .1 .1 .0 .1 }), held (o .cap) (record { sfits = f .1 .1 .1 .0 .1 }), held (o .nodes) (record { sfits = f .1 .1 .1 .1 .0 .1 }))
+          at (p .0),
       p .1,
     )
 

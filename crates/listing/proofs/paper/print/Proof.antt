@@ -1,12 +1,14 @@
 -- The line is written into the part of the area that is left.
 use borrow.Author.Needs.{needs}
+use mathlib.Core.Path.{sym}
 use Rattle.listing.specs.Entries.{lineOf}
-use Rattle.listing.proofs.Printing.{no-more, line-fits, line-inside, line-more}
+use Rattle.listing.specs.Paper.{paper}
+use Rattle.listing.proofs.Printing.{still, line-fits, line-inside, line-more}
 use Rattle.listing.proofs.paper.print.Statement.{statement}
 use Rattle.listing.proofs.paper.print.Tie as tie
 
 returns : tie.Need-returns
-returns c = let s = c .before .before .before in (no-more (s .args .out .now) (s .args .done) (lineOf (s .args .e)) (c .if1 .taken), s .pre)
+returns c = let s = c .before .before .before in (sym (still (paper (s .args .out .now) (s .args .done)) (lineOf (s .args .e)) (c .if1 .taken)), s .pre)
 
 sub-write : tie.Need-sub-write
 sub-write c = search needs

@@ -181,7 +181,7 @@ prints c =
       noted c .note .kept .0 ∙ l .inv .1,
       noted c .note .ensures .1,
       inked (begins (at c .before)) (schedule n) (l .i) (less n) (l .book) (l .teams) (l .inv .4) (mine n) (paper (s .args .out .now) (s .args .done)) (paper (l .out) (l .printed)) _
-      (called c .turn .result) (turns c .0) (l .inv .5) (rw (back n) at (noted c .note .ensures .0)),
+          (called c .turn .result) (turns c .0) (l .inv .5) (rw (back n) at (noted c .note .ensures .0)),
     )
 
 -- the pair of a split

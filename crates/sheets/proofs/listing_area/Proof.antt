@@ -1,0 +1,11 @@
+-- The length of the area, by the law.
+use Prim.Native.Nat.{ℕ}
+use Rattle.sheets.proofs.Areas.{repeat-length}
+use Rattle.sheets.proofs.listing_area.Statement.{statement}
+use Rattle.sheets.proofs.listing_area.Tie as tie
+
+returns : tie.Need-returns
+returns c = repeat-length ℕ 0 1310800
+
+pub listing-area-spec : {M : Type 1} → statement M
+listing-area-spec = tie.close (tie.spec returns)
