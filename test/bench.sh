@@ -6,7 +6,8 @@
 # SHEETS is the program itself, for x86-64; the twin is built for x86-64 too, and both are run by the
 # words of test/runner.sh.  On a machine that is not x86-64 that is an emulator: then only the ratios
 # say something, and those roughly.  Each time is the least processor time of REPEATS runs (40), less
-# the least on an empty text, which is what starting the process costs.
+# the least of an empty run, a header without a schedule: that is what starting the process, opening
+# the ledger and the two lines cost, whatever the steps.
 set -eu
 export LC_ALL=C
 
@@ -59,7 +60,7 @@ growth() { # PROGRAM TEAMS: what a step costs at 1,023 nodes, that at 3 nodes be
         'BEGIN { if (b > 0) printf "%.2f", a / b; else printf "-" }'
 }
 
-: >"$room/empty"
+echo '0 2147483647 2 1 3' >"$room/empty"
 texts='empty many-nodes'
 cp "$here/many-nodes.txt" "$room/many-nodes"
 for teams in 2 32; do
