@@ -47,13 +47,13 @@ abbrev pub front : List ℕ → List ℕ → Paper
 front done rest = record { area = done ++ rest; code = 0; length = length done }
 
 module _ (done rest : List ℕ) (l : Line) (s : Sane l) where
-  pub has-room : length (text l) ≤ length rest → printed (front done rest) l ≡ front (done ++ text l) (drop (length (text l)) rest)
+  has-room : length (text l) ≤ length rest → printed (front done rest) l ≡ front (done ++ text l) (drop (length (text l)) rest)
   unfolding printed answerTo areaAfter refusal
   has-room h =
       rw
       (drop-append-seam done rest, take-at done rest (length done) refl, s .plain, le-ltb (length rest) (length (text l)) h, length-append done (text l), append-assoc done (text l) (drop (length (text l)) rest))
 
-  pub no-room : length rest < length (text l) → printed (front done rest) l .code ≡ 28
+  no-room : length rest < length (text l) → printed (front done rest) l .code ≡ 28
   unfolding printed answerTo areaAfter refusal
   no-room h = rw (drop-append-seam done rest, s .plain, lt-ltb (length rest) (length (text l)) h)
 

@@ -87,7 +87,7 @@ module _ (o : Opening) (ok : opens o ≡ true) where
   start-fits =
       begun-fits (λ t. scan) (λ t. AtRoot) (λ t. scan-seeks t) (λ t. scan-roams t) (pos cap) limited o maxTeams ok (opens-facts o ok .teams .high)
 
-  pub run-from-fits : (s : List ℤ) (u : Run) → Fits u → Fits (runFrom (pos cap) u s)
+  run-from-fits : (s : List ℤ) (u : Run) → Fits u → Fits (runFrom (pos cap) u s)
   run-from-fits s u g =
       run-fits (λ t. scan) (λ t. AtRoot) (λ t. scan-seeks t) (λ t. scan-roams t) (pos cap) limited (natOf (o .teams)) s u g
 
