@@ -48,7 +48,7 @@ second-of true b e = e
 second-of false b e = absurd (false≢true e)
 
 module _ (test : ℕ → Bool) where
-  all-append : (a b : List ℕ) → all test a ≡ true → all test b ≡ true → all test (a ++ b) ≡ true
+  pub all-append : (a b : List ℕ) → all test a ≡ true → all test b ≡ true → all test (a ++ b) ≡ true
   all-append [] b e f = f
   all-append (x ∷ a) b e f =
       both (first-of (test x) (all test a) e) (all-append a b (second-of (test x) (all test a) e) f)

@@ -3,3 +3,6 @@ pub mod Printing
 pub mod Stopped
 pub mod Stepping
 pub mod Reading
+pub mod Lines
+pub mod Noted
+pub mod Demands

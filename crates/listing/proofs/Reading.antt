@@ -1,14 +1,14 @@
 -- From the text to the run, and from the lines printed to the whole listing.
-use mathlib.Core.Path.{_≡_, refl, sym, ap, ap₂, _∙_}
+use mathlib.Core.Path.{_≡_, ap, ap₂, _∙_}
 use mathlib.Core.Logic.{_≢_}
-use mathlib.Core.Bool.{Bool, true, false, cond}
+use mathlib.Core.Bool.{true}
 use mathlib.Core.List.{List, [], _∷_, _++_, map}
 use Prim.Native.Nat.{ℕ, zero, suc, _≤_, _<_, min}
 use native.Mathlib.Omega.{arith}
 use lib.IntN.{ℤ, pos}
 use lib.ListN.{length, getD, take, drop, length-map, length-append}
 use lib.Seq.{take-at}
-use borrow.Author.Tests.{eq-eqb, ne-eqb}
+use borrow.Author.Tests.{ne-eqb}
 use Rattle.numbers.specs.Progress.{signed}
 use Rattle.numbers.specs.Fields.{natOf, within}
 use Rattle.numbers.proofs.Laws.{within-made}
@@ -27,7 +27,7 @@ use Rattle.listing.specs.Paper.{Paper, paper, blankPaper, printed, print
 use Rattle.listing.specs.Table.{Runnable}
 
 -- each number at the front of an area is a team's
-front-teams : (teams : ℕ) (ns : List ℕ) (rest : List ℤ) → teams ≤ 2147483647 → AllTeams teams ns
+pub front-teams : (teams : ℕ) (ns : List ℕ) (rest : List ℤ) → teams ≤ 2147483647 → AllTeams teams ns
     → (i : ℕ) → i < length ns → within (getD (map signed ns ++ rest) i (pos 0)) 1 teams ≡ true
 front-teams teams [] rest h none i less = absurd (omega arith)
 front-teams teams (n ∷ ns) rest h (more low high all) zero less = within-made (min n 2147483647) 1 teams (omega arith) (omega arith)
@@ -61,11 +61,6 @@ module _ (bytes : List ℕ) (area later : List ℤ) (s : Schedule) (is : s ≡ s
             rw later-is
             (rw (← is) at (front-teams (natOf (scheduleOf (length area) bytes .opening .teams)) ns (drop (length ns) area) (omega (arith, f .teams .high)) (limits .teams) i (rw count-is at h)));
       }
-
-  -- the lines of a text that is granted
-  granted-lines : linesOf (length area) bytes ≡ runLines (s .opening) (teamsIn bytes)
-  unfolding linesOf
-  granted-lines = rw (← is, good)
 
 -- ---- the whole listing
 

@@ -1,12 +1,10 @@
 -- What holds of the ledger and the records of a run, and what a step makes of them: the laws of the loop over the schedule.
 use mathlib.Core.Path.{_≡_, refl, sym, ap, _∙_}
-use mathlib.Core.Logic.{_≢_}
 use mathlib.Core.Bool.{Bool, true, false, cond}
 use mathlib.Core.List.{List, [], _∷_, _++_, append-assoc, append-nil}
-use Prim.Native.Nat.{ℕ, suc, _+_, _-_, _*_, _≤_, _<_, min}
+use Prim.Native.Nat.{ℕ, _+_, _-_, _≤_, _<_}
 use native.Mathlib.Omega.{arith}
 use native.Mathlib.Decide.{ℕ-discrete, decLe}
-use lib.Dec.{eqb}
 use lib.IntN.{ℤ, pos}
 use lib.ListN.{length, getD, set, take, replicate}
 use lib.Seq.{take-suc}
@@ -26,7 +24,7 @@ use Rattle.rules.specs.Limits.{opens, maxCap, maxTeams, maxNodes}
 use Rattle.rules.specs.Nodes.{blank, parted, leftPart, rightPart}
 use Rattle.rules.specs.States.{stolenOf}
 use Rattle.rules.specs.Refusals.{kindCode, refusal}
-use Rattle.rules.specs.Requests.{refused, owning, advancing, marking, expanding, looking, granted, outcome, decided, view, changed, nodeIn}
+use Rattle.rules.specs.Requests.{owning, advancing, marking, expanding, looking, granted, decided, view, changed, nodeIn}
 use Rattle.rules.specs.Table.{at, put, grown, stolenIn}
 use Rattle.rules.proofs.Expand.{room-left, load-next}
 use Rattle.rules.proofs.Granted.{asked-facts, expand-facts, decided-granted, decided-refused}
@@ -79,20 +77,26 @@ module _ (o : Opening) (ok : opens o ≡ true) where
   abbrev cap : ℕ
   cap = natOf (o .cap)
 
-  limited : within (pos cap) 1 maxCap ≡ true
+  pub limited : within (pos cap) 1 maxCap ≡ true
   limited = let f = opens-facts o ok .cap in within-made cap 1 maxCap (f .low) (f .high)
 
-  abbrev Fits : Run → Type 0
+  abbrev pub Fits : Run → Type 0
   Fits u = Fitting (λ t. scan) (λ t. AtRoot) (λ t. scan-seeks t) (λ t. scan-roams t) (pos cap) limited (natOf (o .teams)) u
 
-  fitting : (s : List ℤ) → Fits (runFrom (pos cap) (startOf o) s)
-  fitting s =
-      run-fits (λ t. scan) (λ t. AtRoot) (λ t. scan-seeks t) (λ t. scan-roams t) (pos cap) limited (natOf (o .teams)) s (startOf o)
-      (begun-fits (λ t. scan) (λ t. AtRoot) (λ t. scan-seeks t) (λ t. scan-roams t) (pos cap) limited o maxTeams ok (opens-facts o ok .teams .high))
+  pub start-fits : Fits (startOf o)
+  start-fits =
+      begun-fits (λ t. scan) (λ t. AtRoot) (λ t. scan-seeks t) (λ t. scan-roams t) (pos cap) limited o maxTeams ok (opens-facts o ok .teams .high)
 
-  here-from : (s : List ℤ) (l : Ledger) (rs : List Team) → runWith l rs ≡ runFrom (pos cap) (startOf o) s → Here o cap l rs
-  here-from s l rs e =
-      let g : Fits (runWith l rs) = rw e (fitting s) in
+  run-from-fits : (s : List ℤ) (u : Run) → Fits u → Fits (runFrom (pos cap) u s)
+  run-from-fits s u g =
+      run-fits (λ t. scan) (λ t. AtRoot) (λ t. scan-seeks t) (λ t. scan-roams t) (pos cap) limited (natOf (o .teams)) s u g
+
+  pub step-fits : (u : Run) (number : ℤ) → Fits u → Fits (stepTeam (λ t. scan) (pos cap) u number)
+  unfolding runTeams
+  step-fits u number g = run-from-fits (number ∷ []) u g
+
+  pub here-of : (l : Ledger) (rs : List Team) → Fits (runWith l rs) → Here o cap l rs
+  here-of l rs g =
       record {
         wf = g .good .wf;
         small = opens-facts o ok .cap .high;
@@ -105,7 +109,9 @@ module _ (o : Opening) (ok : opens o ≡ true) where
 pub here : {o : Opening} {cap : ℕ} {u : Run} → Begun o cap u → (s : List ℤ) (l : Ledger) (rs : List Team)
     → runWith l rs ≡ runFrom (pos cap) u s
     → Here o cap l rs
-here {o} b s l rs e = rw (b .cap-is) (here-from o (b .ok) s l rs (rw (b .cap-is, b .start-is) at e))
+here {o} b s l rs e =
+    let ran : runWith l rs ≡ runFrom (pos (natOf (o .cap))) (startOf o) s = rw (b .cap-is, b .start-is) at e in
+    rw (b .cap-is) (here-of o (b .ok) l rs (rw ran (run-from-fits o (b .ok) s (startOf o) (start-fits o (b .ok)))))
 
 -- ---- what the code sees of the table
 

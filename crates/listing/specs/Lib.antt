@@ -4,3 +4,5 @@ pub mod Listing
 pub mod Paper
 pub mod Entries
 pub mod Table
+pub mod Grants
+pub mod Demands

@@ -17,11 +17,11 @@ use Rattle.rules.specs.declared.Opening.{Opening}
 use Rattle.rules.specs.declared.Request.{Request}
 use Rattle.rules.specs.declared.Answer.{Answer}
 use Rattle.rules.specs.declared.Answered.{Answered}
-use Rattle.rules.specs.Listing.{afterAll}
+use Rattle.rules.specs.Listing.{Batch, afterAll, isClaim, batchOf, batches, timesIn}
 use Rattle.rules.specs.Nodes.{blank, fresh, owned, moved, parted, childless, positionOf, middle, leftPart, rightPart}
 use Rattle.rules.specs.Opening.{opened, ledgerOf}
 use Rattle.rules.specs.Requests.{batchEnd, nodeIn, requested}
-use Rattle.rules.specs.Sheet40.{Inside, Gives, NeverGrantedTwice}
+use Rattle.rules.specs.Sheet40.{Inside, Gives, NeverGrantedTwice, GivenOnceAtMost}
 use Rattle.rules.specs.Table.{at, put, sumBy}
 use Rattle.rules.proofs.Granted.{Asked, Advancing, Expanding, after as splitAt, Answers, refuses, owns, advances, marks, expands, looks, answers}
 use Rattle.rules.proofs.Keeps.{no-children, requested-wf}
@@ -221,7 +221,7 @@ begun-free : (s : ℕ) (o : Opening) → freeAt s (ledgerOf o) ≤ 1
 unfolding freeAt opened
 begun-free s o = at-most-one s 1022 (fresh (natOf (o .start)) (natOf (o .until)))
 
-after-append : (l : Ledger) (rs qs : List Request) → afterAll l (rs ++ qs) ≡ afterAll (afterAll l rs) qs
+pub after-append : (l : Ledger) (rs qs : List Request) → afterAll l (rs ++ qs) ≡ afterAll (afterAll l rs) qs
 unfolding afterAll
 after-append l [] qs = refl
 after-append l (r ∷ rs) qs = after-append (requested l r .ledger) rs qs
@@ -248,3 +248,51 @@ never-granted-twice o before between r q s e =
     rw
     (b .ledger, after-append l before (r ∷ between))
     (not-twice l (opened-wf o (b .good)) before between r q s (begun-free s o))
+
+-- ---- all the batches of a run
+
+times-append : (s : ℕ) (bs cs : List Batch) → timesIn s (bs ++ cs) ≡ timesIn s bs + timesIn s cs
+unfolding timesIn
+times-append s [] cs = omega arith
+times-append s (b ∷ bs) cs = omega (arith, times-append s bs cs)
+
+-- a batch that has the sheet takes it away, and no request gives it back
+given-or-free : (s : ℕ) (l : Ledger) (r : Request) → WF l
+    → timesIn s (batchOf r (requested l r .answer)) + freeAt s (requested l r .ledger) ≤ freeAt s l
+unfolding timesIn batchOf isClaim
+given-or-free s l r w = go (ℕ-discrete (natOf (r .kind)) 2) (ℕ-discrete (a .code) 0) (decLe (a .from) s) (decLt s (a .to))
+  where
+    a : Answer
+    a = requested l r .answer
+
+    less : freeAt s (requested l r .ledger) ≤ freeAt s l
+    less = requested-free s l r w
+
+    go : Dec (natOf (r .kind) ≡ 2) → Dec (a .code ≡ 0) → Dec (a .from ≤ s) → Dec (s < a .to)
+        → timesIn s (batchOf r a) + freeAt s (requested l r .ledger) ≤ freeAt s l
+    go (no other) granted low high = rw (ne-eqb (natOf (r .kind)) 2 other) (omega (arith, less))
+    go (yes claim) (no refused) low high = rw (eq-eqb (natOf (r .kind)) 2 claim, ne-eqb (a .code) 0 refused) (omega (arith, less))
+    go (yes claim) (yes granted) (no above) high =
+        rw (eq-eqb (natOf (r .kind)) 2 claim, eq-eqb (a .code) 0 granted, lt-leb (a .from) s (omega arith)) (omega (arith, less))
+    go (yes claim) (yes granted) (yes low) (no below) =
+        rw
+        (eq-eqb (natOf (r .kind)) 2 claim, eq-eqb (a .code) 0 granted, le-leb (a .from) s low, le-ltb s (a .to) (omega arith))
+        (omega (arith, less))
+    go (yes claim) (yes granted) (yes low) (yes high) =
+        let g : Gives l r s = record { claim = record { kind-is = claim; code-is = granted }; inside = record { low = low; high = high } } in
+        rw
+        (eq-eqb (natOf (r .kind)) 2 claim, eq-eqb (a .code) 0 granted, le-leb (a .from) s low, lt-ltb s (a .to) high)
+        (omega (arith, taken s l r w g))
+
+run-times : (s : ℕ) (l : Ledger) (rs : List Request) → WF l → timesIn s (batches l rs) + freeAt s (afterAll l rs) ≤ freeAt s l
+unfolding timesIn batches afterAll
+run-times s l [] w = omega arith
+run-times s l (r ∷ rs) w =
+    let k = requested l r .ledger in
+    omega
+    (arith, times-append s (batches k rs) (batchOf r (requested l r .answer)), given-or-free s l r w, run-times s k rs (requested-later l r w .wf))
+
+pub given-once-at-most : GivenOnceAtMost
+given-once-at-most o rs s e =
+    let b = begun o e in
+    rw (b .ledger) (omega (arith, run-times s (ledgerOf o) rs (opened-wf o (b .good)), begun-free s o))

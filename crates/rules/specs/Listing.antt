@@ -4,7 +4,7 @@ use Prim.Native.Nat.{ℕ, zero, suc, _+_, _-_, _<_}
 use mathlib.Core.Path.{_≡_}
 use mathlib.Core.Bool.{Bool, cond, _&&_}
 use mathlib.Core.List.{List, [], _∷_, _++_}
-use lib.Dec.{eqb}
+use lib.Dec.{eqb, leb, ltb}
 use Rattle.numbers.specs.Fields.{natOf}
 use Rattle.rules.specs.declared.Node.{Node}
 use Rattle.rules.specs.declared.Ledger.{Ledger}
@@ -64,6 +64,11 @@ batchOf r a = cond (isClaim r a) (batchIn r a ∷ []) []
 unfoldable pub batches : Ledger → List Request → List Batch
 batches l [] = []
 batches l (r ∷ rs) = batches (requested l r .ledger) rs ++ batchOf r (requested l r .answer)
+
+-- how many of the batches have the sheet s
+unfoldable pub timesIn : ℕ → List Batch → ℕ
+timesIn s [] = 0
+timesIn s (b ∷ bs) = cond (leb (b .from) s && ltb s (b .to)) 1 0 + timesIn s bs
 
 -- the sheets granted from a node, in the order in which they were granted
 unfoldable pub grantedFrom : List Batch → ℕ → List ℕ

@@ -15,7 +15,7 @@ use Rattle.rules.specs.declared.Opening.{Opening}
 use Rattle.rules.specs.declared.Request.{Request}
 use Rattle.rules.specs.declared.Answer.{Answer}
 use Rattle.rules.specs.Limits.{maxNodes}
-use Rattle.rules.specs.Listing.{unclaimedOf, afterAll, reached}
+use Rattle.rules.specs.Listing.{unclaimedOf, afterAll, reached, batches, timesIn}
 use Rattle.rules.specs.Nodes.{marked, positionOf, middle}
 use Rattle.rules.specs.Opening.{opening}
 use Rattle.rules.specs.Requests.{nodeIn, requested}
@@ -138,3 +138,8 @@ NeverGrantedTwice =
     → Gives (reached o before) r s
     → Gives (reached o (before ++ r ∷ between)) q s
     → ⊥
+
+-- so of all that was granted, whatever was requested, at most one batch has the sheet
+abbrev pub GivenOnceAtMost : Type 0
+GivenOnceAtMost =
+    (o : Opening) (rs : List Request) (s : ℕ) → opening o .code ≡ 0 → timesIn s (batches (opening o .ledger) rs) ≤ 1

@@ -1,8 +1,11 @@
 -- On a well-formed ledger the step is the turn, carried out: all that it reads of the table is the node that its request names.
-use mathlib.Core.Path.{_≡_, refl, _∙_}
+use mathlib.Core.Path.{_≡_, refl, ap, _∙_}
 use mathlib.Core.Bool.{Bool, true, false, cond}
 use Prim.Native.Nat.{ℕ}
+use lib.IntN.{pos}
+use Rattle.numbers.specs.Fields.{natOf}
 use Rattle.rules.specs.declared.Ledger.{Ledger}
+use Rattle.rules.specs.declared.Request.{Request}
 use Rattle.rules.specs.declared.View.{View}
 use Rattle.rules.specs.Requests.{nodeIn, view, changed, answered}
 use Rattle.rules.proofs.Keeps.{requested-wf}
@@ -30,11 +33,15 @@ module _ (s : Search) (t cap : ℕ) (l : Ledger) (w : WF l) (r : Team) where
       go true = unfold changed in refl
       go false = rw (requested-wf l (asks s t r) w)
 
--- the scan asks about its own record's node
-pub scan-node : (t : ℕ) (r : Team) → isStopped (r .place) ≡ false → nodeIn (asks scan t r) ≡ r .node
-scan-node t r e = go (r .place) e
+-- a request of this team about this record's node, whatever its kind
+abbrev owned-by : ℕ → Team → Request → Request
+owned-by t r q = record { kind = q .kind; team = pos t; node = pos (r .node); position = q .position; amount = q .amount }
+
+-- the scan asks for its own team, about its own record's node
+scan-asks : (t : ℕ) (r : Team) → isStopped (r .place) ≡ false → asks scan t r ≡ owned-by t r (asks scan t r)
+scan-asks t r e = go (r .place) e
   where
-    go : (p : Place) → isStopped p ≡ false → nodeIn (lineAt scan p .asks t r) ≡ r .node
+    go : (p : Place) → isStopped p ≡ false → lineAt scan p .asks t r ≡ owned-by t r (lineAt scan p .asks t r)
     go Seek e = refl
     go Take e = refl
     go Work e = refl
@@ -43,6 +50,12 @@ scan-node t r e = go (r .place) e
     go Split e = refl
     go Join e = refl
     go Stopped e = never (let f : true ≡ false = e in cc)
+
+pub scan-node : (t : ℕ) (r : Team) → isStopped (r .place) ≡ false → nodeIn (asks scan t r) ≡ r .node
+scan-node t r e = ap nodeIn (scan-asks t r e)
+
+pub scan-team : (t : ℕ) (r : Team) → isStopped (r .place) ≡ false → natOf (asks scan t r .team) ≡ t
+scan-team t r e = ap (λ (q : Request). natOf (q .team)) (scan-asks t r e)
 
 -- so its step is the turn at that node; a team that has stopped looks at none
 pub scan-turn : (t cap : ℕ) (l : Ledger) → WF l → (r : Team)

@@ -67,7 +67,7 @@ passed-over : (b : ℕ) (bs : List ℕ) → eqb b 10 ≡ false → marksFrom tru
 unfolding marksFrom
 passed-over b bs e = let q = quiet-byte b e in rw (q .stays) (q .says b bs (marksFrom true bs))
 
-same-marks : {c : Bool} {s t : List ℕ} → SameButComments c s t → marksFrom c s ≡ marksFrom c t
+pub same-marks : {c : Bool} {s t : List ℕ} → SameButComments c s t → marksFrom c s ≡ marksFrom c t
 unfolding marksFrom
 same-marks nothing = refl
 same-marks {c} (same {s = s} {t = t} b r) = rw (same-marks r) (added-same c (classOf b) b s t r _)

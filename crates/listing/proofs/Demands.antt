@@ -1,0 +1,228 @@
+-- The demands on the listing, proved.
+use mathlib.Core.Path.{_≡_, refl, sym, ap, _∙_}
+use mathlib.Core.Logic.{_≢_}
+use mathlib.Core.Bool.{true}
+use mathlib.Core.List.{List, [], _∷_, _++_, append-nil}
+use Prim.Native.Nat.{ℕ, zero, suc, _+_, _≤_, _<_}
+use native.Mathlib.Omega.{arith}
+use native.Mathlib.Decide.{ℕ-discrete}
+use lib.IntN.{ℤ, pos}
+use lib.ListN.{length, getD, length-map, length-append}
+use borrow.Author.Tests.{ne-eqb}
+use Rattle.numbers.specs.Progress.{signed}
+use Rattle.numbers.specs.Fields.{natOf, within}
+use Rattle.rules.specs.declared.Opening.{Opening}
+use Rattle.rules.specs.Limits.{opens, maxTeams}
+use Rattle.rules.specs.Count.{unclaimed}
+use Rattle.rules.specs.Listing.{batches}
+use Rattle.rules.specs.Opening.{opening, ledgerOf}
+use Rattle.rules.proofs.Once.{given-once-at-most}
+use Rattle.rules.proofs.Opens.{opens-facts}
+use Rattle.rules.proofs.Sheets.{every-sheet-once}
+use Rattle.steps.specs.declared.Team.{Team}
+use Rattle.steps.specs.Records.{isStopped}
+use Rattle.steps.specs.Step.{recordOf}
+use Rattle.steps.specs.Run.{stoppedTo, stoppedTeams}
+use Rattle.steps.proofs.Demands.{scan-leaves-nothing}
+use Rattle.text.specs.Marks.{marks}
+use Rattle.text.specs.Judgement.{scheduleNumbers}
+use Rattle.text.specs.Answers.{scheduleOf}
+use Rattle.text.specs.Demands.{WithinLimits}
+use Rattle.text.proofs.Demands.{granted-within-limits, same-marks, comments-never-matter}
+use Rattle.lines.specs.Line.{Line, leftLine, refusedLine, anyNegative, spaced, whole, text}
+use Rattle.lines.proofs.Decimal.{decimal-width}
+use Rattle.lines.proofs.Demands.{at-most-40}
+use Rattle.listing.specs.Steps.{headLine, lastLine, notes, startOf, endOf, runLines}
+use Rattle.listing.specs.Listing.{scheduleRoom, teamsIn, linesOf, bytesOf, listingOf}
+use Rattle.listing.specs.Paper.{Paper, listed, paperOf}
+use Rattle.listing.specs.Grants.{claimsIn, asked}
+use Rattle.listing.specs.Demands.{IsGranted, opensWith, askedBy, PlainListing, RefusedInOneLine, CommentsNeverPrinted, PrintsWhatWasGranted, NoSheetPrintedTwice, EverySheetPrintedOnce, AllStoppedNoneLeft, WholeOrRefused, PrintsTheListing}
+use Rattle.listing.proofs.Lines.{Sane, AllSane, none, more, sane-append, plain-bytes, forty-each, all-room, too-long}
+use Rattle.listing.proofs.Noted.{RunTells, run-tells, claims-of-run}
+use Rattle.listing.proofs.Reading.{front-teams}
+use Rattle.listing.proofs.Stepping.{Here, here, start-fits}
+use Rattle.listing.proofs.Stopped.{one-at-most}
+
+-- ---- a text that is granted, and one that is refused
+
+abbrev refusal : ℕ → List ℕ → Line
+refusal room bytes = refusedLine (signed (scheduleOf room bytes .code)) (signed (scheduleOf room bytes .line))
+
+refused-lines : (room : ℕ) (bytes : List ℕ) → scheduleOf room bytes .code ≢ 0 → linesOf room bytes ≡ refusal room bytes ∷ []
+unfolding linesOf
+refused-lines room bytes bad = rw (ne-eqb (scheduleOf room bytes .code) 0 bad)
+
+granted-lines : (room : ℕ) (bytes : List ℕ) → IsGranted room bytes → linesOf room bytes ≡ runLines (opensWith room bytes) (teamsIn bytes)
+unfolding linesOf
+granted-lines room bytes good = rw good
+
+-- ---- teams that have stopped, and the last of some lines
+
+stopped-few : (rs : List Team) (k : ℕ) → stoppedTo rs k ≤ k
+unfolding stoppedTo
+stopped-few rs zero = omega arith
+stopped-few rs (suc k) = omega (arith, stopped-few rs k, one-at-most (isStopped (recordOf rs (pos (suc k)) .place)))
+
+lastOf : Line → List Line → Line
+lastOf d [] = d
+lastOf d (l ∷ ls) = lastOf l ls
+
+last-is : (d : Line) (xs : List Line) (l : Line) → lastOf d (xs ++ (l ∷ [])) ≡ l
+unfolding lastOf
+last-is d [] l = refl
+last-is d (x ∷ xs) l = last-is x xs l
+
+-- ---- the run of a text that is granted
+
+module _ (room : ℕ) (bytes : List ℕ) (good : IsGranted room bytes) where
+  abbrev o : Opening
+  o = opensWith room bytes
+
+  abbrev s : List ℤ
+  s = teamsIn bytes
+
+  limits : WithinLimits room bytes
+  limits = granted-within-limits room bytes good
+
+  ok : opens o ≡ true
+  ok = limits .opening
+
+  cap-is : pos (natOf (o .cap)) ≡ o .cap
+  cap-is = sym (opens-facts o ok .cap .is)
+
+  each-team : (i : ℕ) → i < length s → within (getD s i (pos 0)) 1 (natOf (o .teams)) ≡ true
+  each-team i h =
+      let ns = scheduleNumbers (marks bytes) in
+      rw append-nil at
+      (front-teams (natOf (o .teams)) ns [] (omega (arith, opens-facts o ok .teams .high)) (limits .teams) i (omega (arith, length-map ns signed)))
+
+  tells : RunTells (ledgerOf o) (length s) (notes (o .cap) (startOf o) s) (asked (o .cap) (startOf o) s) (endOf o s .ledger)
+  tells = rw cap-is at (run-tells o ok (startOf o) s each-team (start-fits o ok))
+
+  opened-is : opening o .ledger ≡ ledgerOf o
+  unfolding opening
+  opened-is = rw ok
+
+  opens-code : opening o .code ≡ 0
+  unfolding opening
+  opens-code = rw ok
+
+  printed-batches : claimsIn (linesOf room bytes) ≡ batches (ledgerOf o) (asked (o .cap) (startOf o) s)
+  printed-batches =
+      ap claimsIn (granted-lines room bytes good) ∙ claims-of-run o s ∙ tells .told .claims
+
+  -- ---- its lines are within the limits
+
+  head-sane : Sane (headLine o)
+  unfolding anyNegative
+  head-sane =
+      let f = opens-facts o ok in
+      record {
+        short = at-most-40 (headLine o) (omega (arith, f .start .high, f .until .high), (f .until .high, (f .teams .high, (f .cap .high, (f .nodes .high, tt)))));
+        plain = rw (f .start .is, f .until .is, f .teams .is, f .cap .is, f .nodes .is);
+      }
+
+  end-here : Here o (natOf (o .cap)) (endOf o s .ledger) (endOf o s .records)
+  end-here =
+      here {u = startOf o} (record { ok = ok; cap-is = refl; start-is = refl }) s (endOf o s .ledger) (endOf o s .records) (rw cap-is)
+
+  few-stopped : stoppedTeams (endOf o s) ≤ 32
+  few-stopped = omega (arith, stopped-few (endOf o s .records) (endOf o s .ledger .teams), end-here .wf .teams-high)
+
+  last-sane : Sane (lastLine (endOf o s))
+  unfolding anyNegative
+  last-sane = let h = few-stopped in record { short = at-most-40 (lastLine (endOf o s)) (omega arith, (omega arith, tt)); plain = refl }
+
+  run-sane : AllSane (linesOf room bytes)
+  unfolding runLines
+  run-sane = rw (granted-lines room bytes good) (more head-sane (sane-append (tells .told .sane) (more last-sane none)))
+
+  few-lines : length (linesOf room bytes) ≤ room + 2
+  unfolding runLines
+  few-lines =
+      rw (granted-lines room bytes good, length-append)
+      (omega (arith, tells .told .few, length-map (scheduleNumbers (marks bytes)) signed, limits .fits))
+
+-- ---- any text
+
+refusal-sane : (room : ℕ) (bytes : List ℕ) → Sane (refusal room bytes)
+unfolding anyNegative whole spaced
+refusal-sane room bytes =
+    let a = decimal-width 9 (natOf (signed (scheduleOf room bytes .code))) (omega arith) in
+    let b = decimal-width 9 (natOf (signed (scheduleOf room bytes .line))) (omega arith) in
+    record { short = simp length-append (omega arith); plain = refl }
+
+-- the lines are sane, and there are at most two besides those of the steps
+record Lined (room : ℕ) (ls : List Line) : Type 0 where
+  sane : AllSane ls
+  few : length ls ≤ room + 2
+
+lined : (room : ℕ) (bytes : List ℕ) → Lined room (linesOf room bytes)
+lined room bytes = go (ℕ-discrete (scheduleOf room bytes .code) 0)
+  where
+    go : Dec (scheduleOf room bytes .code ≡ 0) → Lined room (linesOf room bytes)
+    go (yes good) = record { sane = run-sane room bytes good; few = few-lines room bytes good }
+    go (no bad) =
+        rw (refused-lines room bytes bad) (record { sane = more (refusal-sane room bytes) none; few = omega arith })
+
+-- ---- the demands
+
+pub plain-listing : PlainListing
+unfolding listingOf
+plain-listing bytes = plain-bytes (linesOf scheduleRoom bytes)
+
+pub refused-in-one-line : RefusedInOneLine
+unfolding listingOf bytesOf
+refused-in-one-line bytes bad = rw (refused-lines scheduleRoom bytes bad) (append-nil (text (refusal scheduleRoom bytes)))
+
+pub comments-never-printed : CommentsNeverPrinted
+unfolding listingOf linesOf
+comments-never-printed s t r = rw (comments-never-matter s t r .schedule scheduleRoom, same-marks r)
+
+pub prints-what-was-granted : PrintsWhatWasGranted
+prints-what-was-granted room bytes good =
+    record {
+      claims = rw (opened-is room bytes good) (printed-batches room bytes good);
+      ledger = rw (opened-is room bytes good) (tells room bytes good .ledger);
+    }
+
+pub no-sheet-printed-twice : NoSheetPrintedTwice
+no-sheet-printed-twice room bytes sheet good =
+    rw
+    (prints-what-was-granted room bytes good .claims)
+    (given-once-at-most (opensWith room bytes) (askedBy room bytes) sheet (opens-code room bytes good))
+
+pub every-sheet-printed-once : EverySheetPrintedOnce
+every-sheet-printed-once room bytes good =
+    let t = prints-what-was-granted room bytes good in
+    rw (t .ledger, t .claims) (every-sheet-once (opensWith room bytes) (askedBy room bytes) (opens-code room bytes good))
+
+pub all-stopped-none-left : AllStoppedNoneLeft
+unfolding runLines
+all-stopped-none-left room bytes before count good e =
+    let o = opensWith room bytes in
+    let u = endOf o (teamsIn bytes) in
+    let last : lastLine u ≡ leftLine count (o .teams) =
+    sym (last-is (lastLine u) (headLine o ∷ notes (o .cap) (startOf o) (teamsIn bytes)) (lastLine u))
+    ∙ ap (lastOf (lastLine u)) (sym (granted-lines room bytes good) ∙ e)
+    ∙ last-is (lastLine u) before (leftLine count (o .teams)) in
+    let stopped : signed (stoppedTeams u) ≡ o .teams = cc in
+    let left : count ≡ signed (unclaimed (u .ledger)) = cc in
+    let all : stoppedTeams u ≡ u .ledger .teams = omega (arith, ap natOf stopped, few-stopped room bytes good, end-here room bytes good .teams-are) in
+    let none : unclaimed (u .ledger) ≡ 0 = scan-leaves-nothing o (o .cap) maxTeams (teamsIn bytes) (ok room bytes good) (opens-facts o (ok room bytes good) .teams .high) all in
+    left ∙ rw none
+
+pub whole-or-refused : WholeOrRefused
+unfolding paperOf listed
+whole-or-refused room bytes area =
+    let sane = lined room bytes .sane in (
+      (λ h. let e = all-room (linesOf room bytes) [] area sane h in record { answer = rw e; bytes = ap (λ (p : Paper). p .area) e }),
+      (λ h. rw (too-long (linesOf room bytes) [] area sane h)),
+    )
+
+pub prints-the-listing : PrintsTheListing
+unfolding listingOf
+prints-the-listing bytes area enough =
+    let l = lined scheduleRoom bytes in
+    let h = forty-each (linesOf scheduleRoom bytes) (l .sane) in
+    whole-or-refused scheduleRoom bytes area .0 (omega (arith, l .few))

@@ -1,0 +1,191 @@
+-- The line of a step: it tells just what its request was granted, and its numbers are within the limits.
+use mathlib.Core.Path.{_≡_, refl, sym, _∙_}
+use mathlib.Core.Bool.{Bool, true, false, cond, and-false}
+use mathlib.Core.List.{List, [], _∷_, _++_, append-assoc, append-nil}
+use Prim.Native.Nat.{ℕ, suc, _+_, _≤_, _<_, min}
+use native.Mathlib.Omega.{arith}
+use lib.Dec.{eqb}
+use lib.IntN.{ℤ, pos}
+use lib.ListN.{length, getD, length-append}
+use borrow.Author.Tests.{ne-eqb}
+use Rattle.numbers.specs.Progress.{signed}
+use Rattle.numbers.specs.Fields.{natOf, within}
+use Rattle.numbers.proofs.Laws.{within-true}
+use Rattle.rules.specs.declared.Ledger.{Ledger}
+use Rattle.rules.specs.declared.Opening.{Opening}
+use Rattle.rules.specs.declared.Request.{Request}
+use Rattle.rules.specs.declared.Answer.{Answer}
+use Rattle.rules.specs.declared.Answered.{Answered}
+use Rattle.rules.specs.Limits.{opens}
+use Rattle.rules.specs.Listing.{Batch, isClaim, batchOf, batches, afterAll}
+use Rattle.rules.specs.Nodes.{positionOf, middle}
+use Rattle.rules.specs.Requests.{nodeIn, batchEnd, requested, refused}
+use Rattle.rules.specs.Table.{at}
+use Rattle.rules.proofs.Granted.{Asked, Answers, refuses, owns, advances, marks, expands, looks, answers}
+use Rattle.rules.proofs.Keeps.{requested-wf}
+use Rattle.rules.proofs.Once.{after-append}
+use Rattle.rules.proofs.Range.{within-range}
+use Rattle.rules.proofs.Record.{WF}
+use Rattle.steps.specs.declared.Team.{Team}
+use Rattle.steps.specs.declared.Stepped.{Stepped}
+use Rattle.steps.specs.Places.{scan}
+use Rattle.steps.specs.Records.{isStopped}
+use Rattle.steps.specs.Step.{asking, resting, recordOf, lentCode, lentStep, stepUnless, stepFrom}
+use Rattle.steps.specs.Turn.{asks, moves}
+use Rattle.steps.specs.Run.{Run, stepTeam, runTeams}
+use Rattle.steps.proofs.Turns.{scan-team}
+use Rattle.lines.specs.Line.{Line, batchLine, splitLine, anyNegative}
+use Rattle.lines.proofs.Demands.{at-most-40}
+use Rattle.listing.specs.Steps.{noteOf, stepLine, runWith, runFrom, startOf, notes, runLines}
+use Rattle.listing.specs.Grants.{claimsIn, asksIn, asked}
+use Rattle.listing.proofs.Lines.{AllSane, none, more, sane-append}
+use Rattle.listing.proofs.Stepping.{Fits, here-of, step-fits}
+
+-- what the lines of some steps are to the batches that were granted
+pub record Noted (steps : ℕ) (lines : List Line) (granted : List Batch) : Type 0 where
+  pub sane : AllSane lines
+  pub few : length lines ≤ steps
+  pub claims : claimsIn lines ≡ granted
+
+nothing-noted : (steps : ℕ) → Noted steps [] []
+unfolding claimsIn
+nothing-noted steps = record { sane = none; few = omega arith; claims = refl }
+
+batch-noted : (t n p e : ℕ) → t ≤ 32 → n ≤ 1023 → p ≤ 2147483647 → e ≤ 2147483647
+    → Noted 1 (batchLine (pos t) (signed n) (signed p) (signed e) ∷ []) (record { team = t; node = n; «from» = p; to = e } ∷ [])
+unfolding claimsIn anyNegative
+batch-noted t n p e ht hn hp he =
+    let a : min n 2147483647 ≡ n = omega arith in
+    let b : min p 2147483647 ≡ p = omega arith in
+    let c : min e 2147483647 ≡ e = omega arith in
+    record {
+      sane = more (record { short = at-most-40 (batchLine (pos t) (signed n) (signed p) (signed e)) (ht, (omega arith, (omega arith, (omega arith, tt)))); plain = refl }) none;
+      few = omega arith;
+      claims = rw (a, b, c);
+    }
+
+split-noted : (n left mid : ℕ) → n ≤ 1023 → left ≤ 1023 → Noted 1 (splitLine (signed n) (signed left) (signed mid) ∷ []) []
+unfolding claimsIn anyNegative
+split-noted n left mid hn hl =
+    record {
+      sane = more (record { short = at-most-40 (splitLine (signed n) (signed left) (signed mid)) (omega arith, (omega arith, (omega arith, tt))); plain = refl }) none;
+      few = omega arith;
+      claims = refl;
+    }
+
+-- ---- a request
+
+silent : (team : ℤ) (kind node : ℕ) (a : Answer) → eqb kind 2 ≡ false → eqb kind 4 ≡ false → noteOf team kind node a ≡ []
+unfolding noteOf
+silent team kind node a e f = rw (e, f)
+
+module _ (l : Ledger) (w : WF l) (q : Request) (team : ℤ) (is : natOf team ≡ natOf (q .team)) (positive : team ≡ pos (natOf team)) where
+  abbrev n : ℕ
+  n = nodeIn q
+
+  abbrev Told : Answered → Type 0
+  Told a = Noted 1 (noteOf team (natOf (q .kind)) n (a .answer)) (batchOf q (a .answer))
+
+  -- no claim, and no line
+  other : (a : Answer) (k : ℕ) → natOf (q .kind) ≡ k → eqb k 2 ≡ false → eqb k 4 ≡ false → Noted 1 (noteOf team (natOf (q .kind)) n a) (batchOf q a)
+  unfolding batchOf isClaim
+  other a k e two four = rw (e, silent team k n a two four, two) (nothing-noted 1)
+
+  small : Asked (l .teams) (l .used) q → at l n .until ≤ 2147483647
+  small a = omega (arith, within-range l w n (a .node .low) (a .node .high) .high, w .until-limit)
+
+  noted : {a : Answered} → Answers l q a → Told a
+  noted (refuses ne) = unfold noteOf batchOf isClaim in (simp (ne-eqb _ 0 ne, and-false) (nothing-noted 1))
+  noted (owns k a f) = other _ 1 k refl refl
+  noted (advances k a f) =
+      unfold noteOf batchOf isClaim in
+      (rw (k, ← is, positive)
+      (batch-noted (natOf team) n (positionOf (at l n)) (batchEnd (at l n) q) (omega (arith, a .team .high, w .teams-high)) (omega (arith, a .node .high, w .used-room, w .room-high)) (omega (arith, w .alone n (a .node .low) (a .node .high) .high, small a)) (omega (arith, f .end, small a))))
+  noted (marks k a f) = other _ 3 k refl refl
+  noted (expands k a f) =
+      unfold noteOf batchOf isClaim in
+      (rw k (split-noted n (l .used + 1) (middle (at l n)) (omega (arith, a .node .high, w .used-room, w .room-high)) (omega (arith, f .fits, w .room-high))))
+  noted (looks k a) = other _ 5 k refl refl
+
+  request-noted : Told (requested l q)
+  request-noted = rw (requested-wf l q w) (noted (answers l q))
+
+-- ---- a step
+
+-- the requests of some steps lead from a ledger to the next, and the lines tell of what they are granted
+pub record RunTells (l : Ledger) (steps : ℕ) (lines : List Line) (made : List Request) (next : Ledger) : Type 0 where
+  pub ledger : next ≡ afterAll l made
+  pub told : Noted steps lines (batches l made)
+
+module _ (cap : ℕ) (l : Ledger) (w : WF l) (rs : List Team) (team : ℤ) (passes : lentCode l team (pos cap) rs ≡ 0)
+    (positive : team ≡ pos (natOf team)) where
+  abbrev r : Team
+  r = recordOf rs team
+
+  abbrev q : Request
+  q = asks scan (natOf team) r
+
+  abbrev byStop : Bool → Stepped
+  byStop b = cond b (resting l r) (asking l q (moves scan (natOf team) cap r))
+
+  step-tells : RunTells l 1 (stepLine team (lentStep scan l team (pos cap) rs)) (asksIn (runWith l rs) team) (lentStep scan l team (pos cap) rs .ledger)
+  unfolding lentStep stepUnless stepFrom
+  step-tells = rw passes (go (isStopped (r .place)) refl)
+    where
+      go : (b : Bool) → isStopped (r .place) ≡ b
+          → RunTells l 1 (stepLine team (byStop b)) (cond b [] (q ∷ [])) (byStop b .ledger)
+      go true e = unfold afterAll batches in (record { ledger = refl; told = rw (silent team 0 0 (refused 0) refl refl) (nothing-noted 1) })
+      go false e = unfold afterAll batches in (record { ledger = refl; told = request-noted l w q team (sym (scan-team (natOf team) r e)) positive })
+
+-- ---- a run
+
+claims-append : (xs ys : List Line) → claimsIn (xs ++ ys) ≡ claimsIn ys ++ claimsIn xs
+unfolding claimsIn
+claims-append [] ys = sym (append-nil (claimsIn ys))
+claims-append (x ∷ xs) ys = rw (claims-append xs ys) (simp append-assoc)
+
+batches-append : (l : Ledger) (rs qs : List Request) → batches l (rs ++ qs) ≡ batches (afterAll l rs) qs ++ batches l rs
+unfolding batches afterAll
+batches-append l [] qs = sym (append-nil (batches l qs))
+batches-append l (r ∷ rs) qs = rw (batches-append (requested l r .ledger) rs qs) (simp append-assoc)
+
+nothing-told : (l : Ledger) → RunTells l 0 [] [] l
+unfolding batches afterAll
+nothing-told l = record { ledger = refl; told = nothing-noted 0 }
+
+told-more : {l mid next : Ledger} {xs ys : List Line} {rs qs : List Request} {steps : ℕ} → RunTells l 1 xs rs mid → RunTells mid steps ys qs next
+    → RunTells l (suc steps) (xs ++ ys) (rs ++ qs) next
+told-more {l} {mid} {next} {xs} {ys} {rs} {qs} {steps} s t =
+    let m : mid ≡ afterAll l rs = s .ledger in
+    let x = s .told in
+    let y = t .told in
+    record {
+      ledger = t .ledger ∙ rw m (sym (after-append l rs qs));
+      told =
+          record {
+            sane = sane-append (x .sane) (y .sane);
+            few = rw length-append (omega (arith, x .few, y .few));
+            claims = claims-append xs ys ∙ rw (batches-append l rs qs, ← m, y .claims, x .claims);
+          };
+    }
+
+-- the open line and the left line tell of no batch
+pub claims-of-run : (o : Opening) (s : List ℤ) → claimsIn (runLines o s) ≡ claimsIn (notes (o .cap) (startOf o) s)
+unfolding runLines claimsIn
+claims-of-run o s = rw (append-nil, claims-append (notes (o .cap) (startOf o) s))
+
+module _ (o : Opening) (ok : opens o ≡ true) where
+  abbrev most : ℕ
+  most = natOf (o .cap)
+
+  -- each of the schedule's numbers is a team's
+  pub run-tells : (u : Run) (s : List ℤ) → ((i : ℕ) → i < length s → within (getD s i (pos 0)) 1 (natOf (o .teams)) ≡ true) → Fits o ok u
+      → RunTells (u .ledger) (length s) (notes (pos most) u s) (asked (pos most) u s) (runFrom (pos most) u s .ledger)
+  unfolding runTeams notes asked stepTeam
+  run-tells u [] each g = nothing-told (u .ledger)
+  run-tells u (t ∷ s) each g =
+      let here = here-of o ok (u .ledger) (u .records) g in
+      let mine = each 0 (omega arith) in
+      told-more
+      (step-tells most (u .ledger) (here .wf) (u .records) t (here .passes t mine) (within-true t 1 (natOf (o .teams)) mine .is))
+      (run-tells (stepTeam (λ t. scan) (pos most) u t) s (λ i h. each (suc i) (omega arith)) (step-fits o ok u t g))

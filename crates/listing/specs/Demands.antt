@@ -1,0 +1,111 @@
+-- What is demanded of the listing, for every text. `proofs/Demands.antt` proves each.
+use mathlib.Core.Path.{_≡_}
+use mathlib.Core.Logic.{_≢_}
+use mathlib.Core.Bool.{true, false}
+use mathlib.Core.List.{List, [], _∷_, _++_}
+use Prim.Native.Nat.{ℕ, _≤_, _<_}
+use lib.IntN.{ℤ, pos}
+use lib.ListN.{length, drop}
+use Rattle.numbers.specs.Progress.{signed}
+use Rattle.numbers.specs.Fields.{natOf}
+use Rattle.rules.specs.declared.Ledger.{Ledger}
+use Rattle.rules.specs.declared.Opening.{Opening}
+use Rattle.rules.specs.declared.Request.{Request}
+use Rattle.rules.specs.Listing.{sheets, batches, reached, timesIn, ListsOnly}
+use Rattle.rules.specs.Opening.{opening}
+use Rattle.text.specs.Answers.{scheduleOf}
+use Rattle.text.specs.Demands.{SameButComments}
+use Rattle.lines.specs.Line.{Line, leftLine, refusedLine, text}
+use Rattle.lines.specs.Plain.{isPlain, all}
+use Rattle.listing.specs.declared.Listed.{Listed}
+use Rattle.listing.specs.Steps.{startOf, endOf}
+use Rattle.listing.specs.Listing.{scheduleRoom, teamsIn, linesOf, bytesOf, listingOf}
+use Rattle.listing.specs.Paper.{answerTo, areaAfter}
+use Rattle.listing.specs.Grants.{claimsIn, asked}
+
+-- ---- what `sheets` prints
+
+-- Every byte is a lower-case letter, a digit, a space or a line end.
+abbrev pub PlainListing : Type 0
+PlainListing = (bytes : List ℕ) → all isPlain (listingOf bytes) ≡ true
+
+-- "A refused text prints only `refused CODE LINE`."
+abbrev pub RefusedInOneLine : Type 0
+RefusedInOneLine =
+    (bytes : List ℕ)
+    → scheduleOf scheduleRoom bytes .code ≢ 0
+    → listingOf bytes
+    ≡ text (refusedLine (signed (scheduleOf scheduleRoom bytes .code)) (signed (scheduleOf scheduleRoom bytes .line)))
+
+-- A comment is never copied out: texts that differ only in comments have the same listing.
+abbrev pub CommentsNeverPrinted : Type 0
+CommentsNeverPrinted = (s t : List ℕ) → SameButComments false s t → listingOf s ≡ listingOf t
+
+-- ---- what was granted, in the run of a text that is not refused, with room for so many schedule numbers
+
+abbrev pub IsGranted : ℕ → List ℕ → Type 0
+IsGranted room bytes = scheduleOf room bytes .code ≡ 0
+
+-- the header's numbers, the requests that the run makes, and the ledger after its last step
+abbrev pub opensWith : ℕ → List ℕ → Opening
+opensWith room bytes = scheduleOf room bytes .opening
+
+abbrev pub askedBy : ℕ → List ℕ → List Request
+askedBy room bytes = asked (opensWith room bytes .cap) (startOf (opensWith room bytes)) (teamsIn bytes)
+
+abbrev pub lastLedger : ℕ → List ℕ → Ledger
+lastLedger room bytes = endOf (opensWith room bytes) (teamsIn bytes) .ledger
+
+-- The batch lines are exactly what those requests were granted, each once and in their order, and the ledger is the one that they reach.
+pub record Tells (room : ℕ) (bytes : List ℕ) : Type 0 where
+  pub claims : claimsIn (linesOf room bytes) ≡ batches (opening (opensWith room bytes) .ledger) (askedBy room bytes)
+  pub ledger : lastLedger room bytes ≡ reached (opensWith room bytes) (askedBy room bytes)
+
+abbrev pub PrintsWhatWasGranted : Type 0
+PrintsWhatWasGranted = (room : ℕ) (bytes : List ℕ) → IsGranted room bytes → Tells room bytes
+
+-- So no sheet stands in two batch lines.
+abbrev pub NoSheetPrintedTwice : Type 0
+NoSheetPrintedTwice =
+    (room : ℕ) (bytes : List ℕ) (sheet : ℕ) → IsGranted room bytes → timesIn sheet (claimsIn (linesOf room bytes)) ≤ 1
+
+-- And what is printed, node by node, with what is unclaimed is every sheet of the range, each exactly once and ascending.
+abbrev pub EverySheetPrintedOnce : Type 0
+EverySheetPrintedOnce =
+    (room : ℕ) (bytes : List ℕ)
+    → IsGranted room bytes
+    → let o = opensWith room bytes in
+    ListsOnly (lastLedger room bytes) (claimsIn (linesOf room bytes)) 1 (sheets (natOf (o .start)) (natOf (o .until)))
+
+-- Where the left line tells that all teams have stopped, it tells that nothing is left.
+abbrev pub AllStoppedNoneLeft : Type 0
+AllStoppedNoneLeft =
+    (room : ℕ) (bytes : List ℕ) (before : List Line) (count : ℤ)
+    → IsGranted room bytes
+    → linesOf room bytes ≡ before ++ (leftLine count (opensWith room bytes .teams) ∷ [])
+    → count ≡ pos 0
+
+-- ---- the area that is lent
+
+-- the listing stands at its front, and after it the bytes that stood there
+pub record StandsIn (area : List ℕ) (listing : List ℕ) (r : Listed) (later : List ℕ) : Type 0 where
+  pub answer : r ≡ record { code = 0; length = length listing }
+  pub bytes : later ≡ listing ++ drop (length listing) area
+
+-- An area that is long enough has the whole listing; else the answer is 28, "line area shorter than the line".
+abbrev pub WholeOrRefused : Type 0
+WholeOrRefused =
+    (room : ℕ) (bytes area : List ℕ)
+    → let listing = bytesOf (linesOf room bytes) in
+    (length listing ≤ length area → StandsIn area listing (answerTo room bytes area) (areaAfter room bytes area))
+    × (length area < length listing → answerTo room bytes area ≡ record { code = 28; length = 0 })
+
+-- 40 bytes for each step, for the open line and for the left line: what `sheets` lends
+abbrev pub listingRoom : ℕ
+listingRoom = 1310800
+
+-- It is long enough for every text.
+abbrev pub PrintsTheListing : Type 0
+PrintsTheListing =
+    (bytes area : List ℕ) → listingRoom ≤ length area
+    → StandsIn area (listingOf bytes) (answerTo scheduleRoom bytes area) (areaAfter scheduleRoom bytes area)
