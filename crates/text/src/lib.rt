@@ -131,30 +131,19 @@ fn is_digit(class: Class) -> bool
     }
 }
 
-// Whether the byte after one of this class is in a comment.
-fn in_comment(inside: bool, class: Class) -> bool
-    ensures { λ r. ⌜ r ≡ inComment inside class ⌝ }
+// Whether the byte after this one is in a comment. It is computed without a choice by the class, for this runs at every byte.
+fn in_comment(inside: bool, b: u8) -> bool
+    ensures { λ r. ⌜ r ≡ inComment inside (classOf b) ⌝ }
 {
-    match class {
-        Class::LineEnd => false,
-        Class::Hash => true,
-        Class::Blank => inside,
-        Class::Digit => inside,
-        Class::Other => inside,
-    }
+    (b != b'\n') & ((b == b'#') | inside)
 }
 
-// Whether a byte of this class is the first of a token: inside a comment only a line end is.
-fn is_first(inside: bool, class: Class) -> bool
-    ensures { λ r. ⌜ r ≡ stops inside class ⌝ }
+// Whether a byte is the first of a token: inside a comment only a line end is.
+fn is_first(inside: bool, b: u8) -> bool
+    ensures { λ r. ⌜ r ≡ stops inside (classOf b) ⌝ }
 {
-    match class {
-        Class::LineEnd => true,
-        Class::Hash => false,
-        Class::Blank => false,
-        Class::Digit => !inside,
-        Class::Other => !inside,
-    }
+    let blank = (b == b' ') | (b == b'\t') | (b == b'\r');
+    (b == b'\n') | !(inside | (b == b'#') | blank)
 }
 
 // The place of the next token's first byte, or the text's end.
@@ -164,11 +153,11 @@ fn skipped(text: &[u8], place: usize) -> usize
     let mut i = place;
     let mut inside = false;
     while i < text.len() {
-        let class = class_of(text[i]);
-        if is_first(inside, class) {
+        let b = text[i];
+        if is_first(inside, b) {
             return i;
         }
-        inside = in_comment(inside, class);
+        inside = in_comment(inside, b);
         i += 1;
     }
     i
