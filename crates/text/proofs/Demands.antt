@@ -2,7 +2,7 @@
 use mathlib.Core.Path.{_≡_, refl, sym, ap, subst, _∙_}
 use mathlib.Core.Bool.{Bool, true, false, cond, not, _&&_, _||_, true≢false, false≢true}
 use mathlib.Core.List.{List, [], _∷_}
-use Prim.Native.Nat.{ℕ, suc, _+_, _*_, _-_, _≤_, _<_}
+use Prim.Native.Nat.{ℕ, suc, _+_, _*_, _≤_, _<_}
 use native.Mathlib.Omega.{arith}
 use lib.Dec.{eqb, leb, ltb}
 use lib.ListN.{length, drop}
@@ -26,7 +26,7 @@ use Rattle.text.specs.Tokens.{tokenOf, tokenAt}
 use Rattle.text.specs.Demands.{SameButComments, nothing, same, other, CommentsNeverMatter, AllTeams, none, more, GrantedIsWithinLimits, AllExact, exact, GrantedIsExact, NeverShort, Scans, ended, found, tokensOf, ScannerFindsTheMarks}
 use Rattle.text.proofs.Scanning.{later, moves, at-end}
 use Rattle.text.proofs.Values.{small-value}
-use Rattle.text.proofs.Judging.{passed, granted-first, not-not, schedule-granted, granted-is}
+use Rattle.text.proofs.Judging.{passed, header-granted, schedule-granted, granted-is}
 
 -- ---- comments never matter
 same-length : {c : Bool} {s t : List ℕ} → SameButComments c s t → length s ≡ length t
@@ -100,15 +100,6 @@ all-teams teams line (number ds k ∷ ms) h e =
     let one = one-team teams line n (strangerFrom teams line ms) (leb 1 n) (leb n teams) refl refl h e in
     more (one .0) (one .1) (all-teams teams line ms h (one .2))
 all-teams teams line (wrong k ∷ ms) h e = all-teams teams line ms h e
-
-header-granted : (n : ℕ) (ms : List Mark) → isGranted (headerVerdict n ms) ≡ true → (ltb maxBytes n ≡ false) × (isGranted (faultFrom 1 ms) ≡ true) × (opens (openingOf (headOf ms)) ≡ true)
-unfolding headerVerdict headVerdict
-header-granted n ms g =
-    let first = passed (ltb maxBytes n) (ruled 21 0) _ refl g in
-    let second = granted-first (isGranted (faultFrom 1 ms)) (faultFrom 1 ms) _ refl (first .1) in
-    let third = passed (not (eqb (length (headOf ms)) headerNumbers)) (ruled 24 (headLine 1 ms)) _ refl (second .1) in
-    let fourth = passed (not (opens (openingOf (headOf ms)))) (ruled 20 (headLine 1 ms)) granted refl (third .1) in
-    (first .0, second .0, not-not (opens (openingOf (headOf ms))) (fourth .0))
 
 pub granted-within-limits : GrantedIsWithinLimits
 unfolding scheduleOf

@@ -1,6 +1,6 @@
 -- The judgement put together: what the passes found is what the definitions say.
 use mathlib.Core.Path.{_≡_, refl, sym, ap, _∙_}
-use mathlib.Core.Bool.{Bool, true, false, not, true≢false, false≢true}
+use mathlib.Core.Bool.{Bool, true, false, cond, not, true≢false, false≢true}
 use mathlib.Core.List.{List}
 use Prim.Native.Nat.{ℕ, _+_, _-_, _≤_, _<_}
 use native.Mathlib.Omega.{arith}
@@ -14,23 +14,49 @@ use Rattle.rules.specs.Limits.{opens}
 use Rattle.text.specs.declared.Verdict.{Verdict}
 use Rattle.text.specs.declared.Head.{Head}
 use Rattle.text.specs.declared.Row.{Row}
-use Rattle.text.specs.declared.Tally.{Tally}
+use Rattle.text.specs.declared.Survey.{Survey}
 use Rattle.text.specs.declared.Heading.{Heading}
 use Rattle.text.specs.Marks.{Mark, marks}
-use Rattle.text.specs.Lines.{headLine, lineNumbers, afterLine, leftAfter, numbersOf}
-use Rattle.text.specs.Judgement.{maxBytes, headerNumbers, ruled, granted, isGranted, given, faultFrom, openingOf, headOf, headVerdict, headerVerdict, scheduleMarks, scheduleNumbers, teamsOf, strangerLine, bodyVerdict, scheduleVerdict}
+use Rattle.text.specs.Lines.{headLine, fromHead, lineNumbers, afterLine, leftAfter, numbersOf}
+use Rattle.text.specs.Judgement.{maxBytes, headerNumbers, ruled, granted, isGranted, given, faultFrom, openingOf, headOf, headVerdict, headerVerdict, scheduleMarks, scheduleNumbers, strangerLine, bodyVerdict, scheduleVerdict}
 use Rattle.text.specs.Answers.{noOpening, restPlace, filled, scheduleOf, areaOf}
-use Rattle.text.specs.Passes.{FoundHead, FoundRow, tallyOf, refusedHeading, FoundHeading}
+use Rattle.text.specs.Passes.{FoundHead, FoundRow, tallyOf, FoundSurvey, refusedHeading, headingBy, FoundHeading}
+
+-- ---- tests
+
+-- a test that is passed
+pub passed : (b : Bool) (v rest : Verdict) → isGranted v ≡ false → isGranted (given b v rest) ≡ true → (b ≡ false) × (isGranted rest ≡ true)
+passed true v rest n g = absurd (false≢true (sym n ∙ g))
+passed false v rest n g = (refl, g)
+
+-- a judgement that grants goes on to the next
+granted-first : (b : Bool) (v rest : Verdict) → isGranted v ≡ b → isGranted (given (not b) v rest) ≡ true → (b ≡ true) × (isGranted rest ≡ true)
+granted-first true v rest e g = (refl, g)
+granted-first false v rest e g = absurd (false≢true (sym e ∙ g))
+
+not-not : (b : Bool) → not b ≡ false → b ≡ true
+not-not true e = refl
+not-not false e = absurd (true≢false e)
+
+-- the later tests count only where the earlier ones grant
+later-tests : (b : Bool) (v x y : Verdict) → isGranted v ≡ b → (isGranted v ≡ true → x ≡ y) → given (not b) v x ≡ given (not b) v y
+later-tests true v x y e h = h e
+later-tests false v x y e h = refl
+
+-- ---- the header
 
 pub long-verdict : (n : ℕ) (ms : List Mark) → maxBytes < n → ruled 21 0 ≡ headerVerdict n ms
 unfolding headerVerdict
 long-verdict n ms h = rw (lt-ltb maxBytes n h)
 
--- the verdict of the straight-line tests, by what each pass found
-pub header-verdict : (n : ℕ) (ms : List Mark) → n ≤ maxBytes → (fault : Verdict) (line count : ℕ) (o : Opening) → fault ≡ faultFrom 1 ms → line ≡ headLine 1 ms → count ≡ length (headOf ms) → o ≡ openingOf (headOf ms) →
-    given (not (isGranted fault)) fault (given (not (eqb count headerNumbers)) (ruled 24 line) (given (not (opens o)) (ruled 20 line) granted)) ≡ headerVerdict n ms
+pub header-granted : (n : ℕ) (ms : List Mark) → isGranted (headerVerdict n ms) ≡ true → (ltb maxBytes n ≡ false) × (isGranted (faultFrom 1 ms) ≡ true) × (opens (openingOf (headOf ms)) ≡ true)
 unfolding headerVerdict headVerdict
-header-verdict n ms h fault line count o f l c p = rw (le-ltb maxBytes n h, f, l, c, p)
+header-granted n ms g =
+    let first = passed (ltb maxBytes n) (ruled 21 0) _ refl g in
+    let second = granted-first (isGranted (faultFrom 1 ms)) (faultFrom 1 ms) _ refl (first .1) in
+    let third = passed (not (eqb (length (headOf ms)) headerNumbers)) (ruled 24 (headLine 1 ms)) _ refl (second .1) in
+    let fourth = passed (not (opens (openingOf (headOf ms)))) (ruled 20 (headLine 1 ms)) granted refl (third .1) in
+    (first .0, second .0, not-not (opens (openingOf (headOf ms))) (fourth .0))
 
 pub refused-heading : (text : List ℕ) (v : Verdict) → v ≡ headerVerdict (length text) (marks text) → isGranted v ≡ false → FoundHeading text (refusedHeading v (length text))
 unfolding restPlace
@@ -40,51 +66,73 @@ refused-heading text v e g =
       opening = rw g;
       end = rw (← e, g);
       within = omega arith;
-      small = omega arith;
-      left = omega arith;
-      line = λ h. absurd (true≢false (sym h ∙ g));
+      tally = λ h. absurd (true≢false (sym h ∙ g));
       there = λ h. absurd (true≢false (sym h ∙ g));
     }
 
-module _ (text : List ℕ) (head : Head) (row : Row) (f : FoundHead text head) (r : FoundRow text (head .place) row) where
-  head-numbers : lineNumbers (marks (drop (head .place) text)) ≡ headOf (marks text)
-  head-numbers = ap lineNumbers (f .there)
+-- what the passes tell of a text with these marks, where no byte has 22 or 23
+record Told (text : List ℕ) (ms : List Mark) (teams : ℕ) (head : Head) (row : Row) (survey : Survey) : Type 0 where
+  line : head .line ≡ headLine 1 ms
+  count : row .count ≡ length (headOf ms)
+  opening : openingOf (row .five) ≡ openingOf (headOf ms)
+  end : row .end ≡ length text - leftAfter (fromHead ms)
+  there : marks (drop (row .end) text) ≡ scheduleMarks ms
+  tally : survey .tally ≡ tallyOf teams (headLine 1 ms + 1) (scheduleMarks ms)
 
-  pub row-count : row .count ≡ length (headOf (marks text))
-  row-count = r .count ∙ ap length head-numbers
+module _ (text : List ℕ) (teams : ℕ) (head : Head) (row : Row) (survey : Survey) (f : FoundHead text head) (r : FoundRow text (head .place) row) (s : FoundSurvey text (row .end) (head .line + 1) teams survey) where
+  -- the earliest byte with 22 or 23 is in the row or after it
+  found-fault : given (not (eqb (row .fault) 0)) (ruled (row .fault) (head .line)) (survey .fault) ≡ faultFrom 1 (marks text)
+  found-fault = rw (s .fault) (r .fault (head .line) ∙ f .fault)
 
-  pub row-opening : openingOf (row .five) ≡ openingOf (headOf (marks text))
-  row-opening = r .five ∙ ap openingOf head-numbers
-
-  pub granted-heading : length text ≤ maxBytes → (v : Verdict) (o : Opening) → o ≡ openingOf (row .five) → v ≡ headerVerdict (length text) (marks text) → isGranted v ≡ true → FoundHeading text (record { verdict = v; opening = o; line = head .line; end = row .end })
-  unfolding restPlace
-  granted-heading h v o p e g =
+  all-told : isGranted (faultFrom 1 (marks text)) ≡ true → Told text (marks text) teams head row survey
+  all-told g =
+      let ok = granted-first (eqb (row .fault) 0) (ruled (row .fault) (head .line)) (survey .fault) refl (rw found-fault g) in
+      let w = r .whole (eqb-true (row .fault) 0 (ok .0)) in
+      let there : marks (drop (row .end) text) ≡ scheduleMarks (marks text) = w .there ∙ ap afterLine (f .there g) in
       record {
-        verdict = e;
-        opening = rw g (p ∙ row-opening);
-        end = rw (← e, g) (r .end ∙ ap (λ (ms : List Mark). length text - leftAfter ms) (f .there));
-        within = r .within;
-        small = f .small;
-        left = omega arith;
-        line = λ _. f .line;
-        there = λ _. r .there ∙ ap afterLine (f .there);
+        line = f .line g;
+        count = w .count ∙ ap (λ (ms : List Mark). length (lineNumbers ms)) (f .there g);
+        opening = w .five ∙ ap (λ (ms : List Mark). openingOf (lineNumbers ms)) (f .there g);
+        end = w .end ∙ ap (λ (ms : List Mark). length text - leftAfter ms) (f .there g);
+        there = there;
+        tally = s .tally (ok .1) ∙ rw (f .line g, there);
       }
 
+  -- the verdict of the straight-line tests, by what each pass found
+  pub found-verdict : length text ≤ maxBytes → (o : Opening) (good : Bool) (limits numbers fault v : Verdict)
+      → o ≡ openingOf (row .five)
+      → good ≡ opens o
+      → limits ≡ given (not good) (ruled 20 (head .line)) granted
+      → numbers ≡ given (not (eqb (row .count) headerNumbers)) (ruled 24 (head .line)) limits
+      → fault ≡ given (not (eqb (row .fault) 0)) (ruled (row .fault) (head .line)) (survey .fault)
+      → v ≡ given (not (isGranted fault)) fault numbers
+      → v ≡ headerVerdict (length text) (marks text)
+  unfolding headerVerdict headVerdict
+  found-verdict h o good limits numbers fault v p d l c e is =
+      is
+      ∙ rw
+      (le-ltb maxBytes (length text) h, e, found-fault, c, l, d, p)
+      (later-tests (isGranted (faultFrom 1 (marks text))) (faultFrom 1 (marks text)) _ (headVerdict (marks text)) refl (λ g. let t = all-told g in rw (t .line, t .count, t .opening)))
+
+  heading-by : (b : Bool) (v : Verdict) (o : Opening) → o ≡ openingOf (row .five) → teams ≡ natOf (o .teams) → v ≡ headerVerdict (length text) (marks text) → isGranted v ≡ b → FoundHeading text (cond b (record { verdict = v; opening = o; tally = survey .tally; end = row .end }) (refusedHeading v (length text)))
+  unfolding restPlace
+  heading-by false v o p q e g = refused-heading text v e g
+  heading-by true v o p q e g =
+      let t = all-told (header-granted (length text) (marks text) (rw (← e) g) .1) in
+      let opening : o ≡ openingOf (headOf (marks text)) = p ∙ t .opening in
+      record {
+        verdict = e;
+        opening = rw g opening;
+        end = rw (← e, g) (t .end);
+        within = r .within;
+        tally = λ _. t .tally ∙ rw (q, opening);
+        there = λ _. t .there;
+      }
+
+  pub found-heading : (v : Verdict) (o : Opening) → o ≡ openingOf (row .five) → teams ≡ natOf (o .teams) → v ≡ headerVerdict (length text) (marks text) → FoundHeading text (headingBy (record { verdict = v; opening = o; tally = survey .tally; end = row .end }) (length text))
+  found-heading v o p q e = heading-by (isGranted v) v o p q e refl
+
 -- ---- the schedule
-
--- a test that is passed
-pub passed : (b : Bool) (v rest : Verdict) → isGranted v ≡ false → isGranted (given b v rest) ≡ true → (b ≡ false) × (isGranted rest ≡ true)
-passed true v rest n g = absurd (false≢true (sym n ∙ g))
-passed false v rest n g = (refl, g)
-
--- a judgement that grants goes on to the next
-pub granted-first : (b : Bool) (v rest : Verdict) → isGranted v ≡ b → isGranted (given (not b) v rest) ≡ true → (b ≡ true) × (isGranted rest ≡ true)
-granted-first true v rest e g = (refl, g)
-granted-first false v rest e g = absurd (false≢true (sym e ∙ g))
-
-pub not-not : (b : Bool) → not b ≡ false → b ≡ true
-not-not true e = refl
-not-not false e = absurd (true≢false e)
 
 -- what a granted schedule tells
 pub record Granted (room n : ℕ) (ms : List Mark) : Type 0 where
@@ -110,37 +158,30 @@ pub granted-is : (room n : ℕ) (ms : List Mark) → Granted room n ms → sched
 unfolding scheduleVerdict bodyVerdict
 granted-is room n ms g = rw (g .header, eq-eqb (strangerLine ms) 0 (g .teams), le-ltb room (length (scheduleNumbers ms)) (g .fits))
 
-module _ (text : List ℕ) (room : ℕ) (h : Heading) (f : FoundHeading text h) (teams : ℕ) (te : teams ≡ natOf (h .opening .teams)) (tally : Tally) (ta : tally ≡ tallyOf teams (h .line + 1) (marks (drop (h .end) text))) where
-  -- what was counted, where the header was granted
-  counted : isGranted (h .verdict) ≡ true → tally ≡ tallyOf (teamsOf (marks text)) (headLine 1 (marks text) + 1) (scheduleMarks (marks text))
-  counted g =
-      let opening : h .opening ≡ openingOf (headOf (marks text)) = f .opening ∙ rw g in
-      ta ∙ rw (te, opening, f .line g, f .there g)
+module _ (text : List ℕ) (room : ℕ) (h : Heading) (f : FoundHeading text h) where
+  pub schedule-verdict : (short body v : Verdict)
+      → short ≡ given (ltb room (h .tally .count)) (ruled 27 0) granted
+      → body ≡ given (not (eqb (h .tally .stranger) 0)) (ruled 26 (h .tally .stranger)) short
+      → v ≡ given (not (isGranted (h .verdict))) (h .verdict) body
+      → v ≡ scheduleVerdict room (length text) (marks text)
+  unfolding scheduleVerdict bodyVerdict
+  schedule-verdict short body v s b is =
+      is
+      ∙ later-tests (isGranted (h .verdict)) (h .verdict) body (bodyVerdict room (marks text)) refl (λ g. rw (b, s, f .tally g))
+      ∙ rw (f .verdict)
 
-  tests : Bool → Verdict
-  tests b = given (not b) (h .verdict) (given (not (eqb (tally .stranger) 0)) (ruled 26 (tally .stranger)) (given (ltb room (tally .count)) (ruled 27 0) granted))
-
-  verdict-by : (b : Bool) → isGranted (h .verdict) ≡ b → tests b ≡ given (not b) (headerVerdict (length text) (marks text)) (bodyVerdict room (marks text))
-  unfolding bodyVerdict tests
-  verdict-by true g = rw (counted g)
-  verdict-by false g = f .verdict
-
-  pub schedule-verdict : given (not (isGranted (h .verdict))) (h .verdict) (given (not (eqb (tally .stranger) 0)) (ruled 26 (tally .stranger)) (given (ltb room (tally .count)) (ruled 27 0) granted)) ≡ scheduleVerdict room (length text) (marks text)
-  unfolding scheduleVerdict tests
-  schedule-verdict = verdict-by (isGranted (h .verdict)) refl ∙ rw (f .verdict)
-
-  pub granted-heading-too : Granted room (length text) (marks text) → isGranted (h .verdict) ≡ true
-  granted-heading-too g = rw (f .verdict) (g .header)
+  granted-heading : Granted room (length text) (marks text) → isGranted (h .verdict) ≡ true
+  granted-heading g = rw (f .verdict) (g .header)
 
   pub granted-room : Granted room (length text) (marks text) → length (numbersOf (marks (drop (h .end) text))) ≤ room
-  granted-room g = rw (f .there (granted-heading-too g)) (g .fits)
+  granted-room g = rw (f .there (granted-heading g)) (g .fits)
 
-  pub granted-answer : Granted room (length text) (marks text) → record { code = 0; line = 0; opening = h .opening; count = tally .count } ≡ scheduleOf room text
+  pub granted-answer : Granted room (length text) (marks text) → record { code = 0; line = 0; opening = h .opening; count = h .tally .count } ≡ scheduleOf room text
   unfolding scheduleOf
   granted-answer g =
-      let ok = granted-heading-too g in
+      let ok = granted-heading g in
       let opening : h .opening ≡ openingOf (headOf (marks text)) = f .opening ∙ rw ok in
-      rw (granted-is room (length text) (marks text) g, opening, counted ok)
+      rw (granted-is room (length text) (marks text) g, opening, f .tally ok)
 
 pub refused-answer : (text : List ℕ) (room : ℕ) (v : Verdict) → v ≡ scheduleVerdict room (length text) (marks text) → isGranted v ≡ false → record { code = v .code; line = v .line; opening = noOpening; count = 0 } ≡ scheduleOf room text
 unfolding scheduleOf

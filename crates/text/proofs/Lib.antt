@@ -1,3 +1,4 @@
+pub mod Classes
 pub mod Scanning
 pub mod Values
 pub mod Passing

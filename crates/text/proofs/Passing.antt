@@ -1,6 +1,6 @@
 -- What each pass keeps from one token to the next, over plain variables.
 use mathlib.Core.Path.{_≡_, refl, sym, ap, _∙_}
-use mathlib.Core.Bool.{Bool, true, false, cond, not, true≢false, false≢true}
+use mathlib.Core.Bool.{Bool, true, false, cond, not, _||_, true≢false, false≢true}
 use mathlib.Core.List.{List, [], _∷_, _++_, map}
 use Prim.Native.Nat.{ℕ, zero, suc, _+_, _-_, _≤_, _<_}
 use native.Mathlib.Nat.{add-zero, zero-add}
@@ -11,16 +11,17 @@ use lib.IntN.{ℤ}
 use lib.ListN.{length, set, drop, length-set, length-map}
 use lib.Seq.{sets, set-out, sets-eq}
 use Rattle.numbers.specs.Progress.{signed}
-use borrow.Author.Tests.{ne-eqb}
+use borrow.Author.Tests.{eq-eqb, ne-eqb, eqb-true}
+use Rattle.text.specs.declared.Verdict.{Verdict}
 use Rattle.text.specs.declared.Token.{Token}
 use Rattle.text.specs.declared.Row.{Row}
 use Rattle.text.specs.declared.Tally.{Tally}
 use Rattle.text.specs.Marks.{Mark, lineEnd, number, wrong, marks}
 use Rattle.text.specs.Digits.{tooLarge, numberOf}
 use Rattle.text.specs.Lines.{headLine, fromHead, lineNumbers, afterLine, leftAfter, numbersOf}
-use Rattle.text.specs.Judgement.{maxBytes, granted, ruled, faultFrom, openingOf, isTeam, strangerFrom}
-use Rattle.text.specs.Tokens.{tokenOf, isNumber, isLineEnd, lineAfter, faultOf, isStranger}
-use Rattle.text.specs.Passes.{FoundHead, rowAfter, FoundRow, earlierOf, tallyAfter, tallyOf}
+use Rattle.text.specs.Judgement.{maxBytes, granted, ruled, isGranted, given, faultFrom, openingOf, isTeam, strangerFrom}
+use Rattle.text.specs.Tokens.{tokenOf, isNumber, isWrong, isLineEnd, lineAfter, faultOf, isStranger}
+use Rattle.text.specs.Passes.{FoundHead, rowAfter, WholeRow, FoundRow, earlierOf, tallyAfter, FoundSurvey}
 use Rattle.text.specs.Answers.{filled}
 use Rattle.text.proofs.Scanning.{later, Moves}
 use Rattle.text.proofs.Values.{number-large}
@@ -35,119 +36,85 @@ line-least true line = omega arith
 line-least false line = omega arith
 
 -- ---- the earliest byte with 22 or 23
-large-none : (b : Bool) → _≡_ {A = ℕ} (cond b 23 0) 0 → b ≡ false
-large-none true e = absurd (omega (arith, e))
-large-none false e = refl
+large-first : (b : Bool) (line : ℕ) (v : Verdict) → given (not (eqb (cond b 23 0) 0)) (ruled (cond b 23 0) line) v ≡ given b (ruled 23 line) v
+large-first true line v = refl
+large-first false line v = refl
 
-large-some : (b : Bool) → (_≡_ {A = ℕ} (cond b 23 0) 0 → ⊥) → b ≡ true
-large-some true e = refl
-large-some false e = absurd (e refl)
-
-fault-on : (n line : ℕ) (ms : List Mark) → faultOf (tokenOf n ms) ≡ 0 → faultFrom line ms ≡ faultFrom (lineAfter (tokenOf n ms) line) (later ms)
+fault-first : (n line : ℕ) (ms : List Mark) → given (not (eqb (faultOf (tokenOf n ms)) 0)) (ruled (faultOf (tokenOf n ms)) line) (faultFrom (lineAfter (tokenOf n ms) line) (later ms)) ≡ faultFrom line ms
 unfolding tokenOf faultFrom
-fault-on n line [] e = refl
-fault-on n line (lineEnd k ∷ ms) e = refl
-fault-on n line (number ds k ∷ ms) e = rw (large-none (tooLarge ds) (rw (number-large ds) at e))
-fault-on n line (wrong k ∷ ms) e = absurd (omega (arith, e))
+fault-first n line [] = refl
+fault-first n line (lineEnd k ∷ ms) = refl
+fault-first n line (number ds k ∷ ms) = rw (number-large ds) (large-first (tooLarge ds) line (faultFrom line ms))
+fault-first n line (wrong k ∷ ms) = refl
 
-fault-off : (n line : ℕ) (ms : List Mark) → (faultOf (tokenOf n ms) ≡ 0 → ⊥) → ruled (faultOf (tokenOf n ms)) line ≡ faultFrom line ms
-unfolding tokenOf faultFrom
-fault-off n line [] e = absurd (e refl)
-fault-off n line (lineEnd k ∷ ms) e = absurd (e refl)
-fault-off n line (number ds k ∷ ms) e = rw (number-large ds, large-some (tooLarge ds) (rw (number-large ds) at e))
-fault-off n line (wrong k ∷ ms) e = refl
+-- it is the token's own, or else one of what comes later
+fault-passed : (text : List ℕ) (place line : ℕ) (t : Token) → Moves text place t → given (not (eqb (faultOf t) 0)) (ruled (faultOf t) line) (faultFrom (lineAfter t line) (marks (drop (t .end) text))) ≡ faultFrom line (marks (drop place text))
+fault-passed text place line t m = rw (m .rest, m .is) (fault-first (length text) line (marks (drop place text)))
 
-pub record Faulting (text : List ℕ) (place line : ℕ) : Type 0 where
-  pub within : place ≤ length text
-  pub most : line ≤ place + 1
-  pub same : faultFrom line (marks (drop place text)) ≡ faultFrom 1 (marks text)
-
-pub fault-next : (text : List ℕ) (place line : ℕ) (t : Token) → Faulting text place line → Moves text place t → faultOf t ≡ 0 → Faulting text (t .end) (lineAfter t line)
-fault-next text place line t f m e =
-    record {
-      within = m .within;
-      most = omega (arith, line-most (isLineEnd (t .kind)) line, m .further, f .most);
-      same =
-          rw
-          (m .rest, m .is)
-          (sym (fault-on (length text) line (marks (drop place text)) (rw (m .is) at e)) ∙ f .same);
-    }
-
-pub fault-here : (text : List ℕ) (place line : ℕ) (t : Token) → Faulting text place line → Moves text place t → (faultOf t ≡ 0 → ⊥) → ruled (faultOf t) line ≡ faultFrom 1 (marks text)
-fault-here text place line t f m e =
-    rw (m .is) (fault-off (length text) line (marks (drop place text)) (rw (m .is) at e)) ∙ f .same
-
-pub fault-none : (text : List ℕ) (place line : ℕ) → Faulting text place line → marks (drop place text) ≡ [] → granted ≡ faultFrom 1 (marks text)
-unfolding faultFrom
-fault-none text place line f e = rw e at (f .same)
+fault-later : (text : List ℕ) (place line : ℕ) (t : Token) → Moves text place t → faultOf t ≡ 0 → faultFrom (lineAfter t line) (marks (drop (t .end) text)) ≡ faultFrom line (marks (drop place text))
+fault-later text place line t m e = rw e at (fault-passed text place line t m)
 
 -- ---- the first number
-head-on : (n line : ℕ) (ms : List Mark) → isNumber (tokenOf n ms .kind) ≡ false → headLine line ms ≡ headLine (lineAfter (tokenOf n ms) line) (later ms)
-unfolding tokenOf headLine
-head-on n line [] e = refl
-head-on n line (lineEnd k ∷ ms) e = refl
-head-on n line (number ds k ∷ ms) e = absurd (true≢false e)
-head-on n line (wrong k ∷ ms) e = refl
+record SeeksOn (line : ℕ) (ms : List Mark) (t : Token) : Type 0 where
+  fault : faultFrom (lineAfter t line) (later ms) ≡ faultFrom line ms
+  head : headLine (lineAfter t line) (later ms) ≡ headLine line ms
+  from : fromHead (later ms) ≡ fromHead ms
 
-from-on : (n : ℕ) (ms : List Mark) → isNumber (tokenOf n ms .kind) ≡ false → fromHead ms ≡ fromHead (later ms)
-unfolding tokenOf fromHead
-from-on n [] e = refl
-from-on n (lineEnd k ∷ ms) e = refl
-from-on n (number ds k ∷ ms) e = absurd (true≢false e)
-from-on n (wrong k ∷ ms) e = refl
+seeks-on : (n line : ℕ) (ms : List Mark) → (isNumber (tokenOf n ms .kind) || isWrong (tokenOf n ms .kind)) ≡ false → SeeksOn line ms (tokenOf n ms)
+unfolding tokenOf faultFrom headLine fromHead
+seeks-on n line [] e = record { fault = refl; head = refl; from = refl }
+seeks-on n line (lineEnd k ∷ ms) e = record { fault = refl; head = refl; from = refl }
+seeks-on n line (number ds k ∷ ms) e = absurd (true≢false e)
+seeks-on n line (wrong k ∷ ms) e = absurd (true≢false e)
 
-head-off : (n line : ℕ) (ms : List Mark) → isNumber (tokenOf n ms .kind) ≡ true → headLine line ms ≡ line
-unfolding tokenOf headLine
-head-off n line [] e = absurd (false≢true e)
-head-off n line (lineEnd k ∷ ms) e = absurd (false≢true e)
-head-off n line (number ds k ∷ ms) e = refl
-head-off n line (wrong k ∷ ms) e = absurd (false≢true e)
-
-from-off : (n : ℕ) (ms : List Mark) → isNumber (tokenOf n ms .kind) ≡ true → fromHead ms ≡ ms
-unfolding tokenOf fromHead
-from-off n [] e = absurd (false≢true e)
-from-off n (lineEnd k ∷ ms) e = absurd (false≢true e)
-from-off n (number ds k ∷ ms) e = refl
-from-off n (wrong k ∷ ms) e = absurd (false≢true e)
+-- without a wrong byte, it is a number that is found
+seeks-off : (n line : ℕ) (ms : List Mark) → (isNumber (tokenOf n ms .kind) || isWrong (tokenOf n ms .kind)) ≡ true → isGranted (faultFrom line ms) ≡ true → (line ≡ headLine line ms) × (ms ≡ fromHead ms)
+unfolding tokenOf faultFrom headLine fromHead
+seeks-off n line [] e g = absurd (false≢true e)
+seeks-off n line (lineEnd k ∷ ms) e g = absurd (false≢true e)
+seeks-off n line (number ds k ∷ ms) e g = (refl, refl)
+seeks-off n line (wrong k ∷ ms) e g = absurd (false≢true g)
 
 pub record Seeking (text : List ℕ) (place line : ℕ) : Type 0 where
   pub within : place ≤ length text
   pub most : line ≤ place + 1
+  pub fault : faultFrom line (marks (drop place text)) ≡ faultFrom 1 (marks text)
   pub head : headLine line (marks (drop place text)) ≡ headLine 1 (marks text)
   pub from : fromHead (marks (drop place text)) ≡ fromHead (marks text)
 
-pub seek-next : (text : List ℕ) (place line : ℕ) (t : Token) → Seeking text place line → Moves text place t → isNumber (t .kind) ≡ false → Seeking text (t .end) (lineAfter t line)
+pub seek-next : (text : List ℕ) (place line : ℕ) (t : Token) → Seeking text place line → Moves text place t → (isNumber (t .kind) || isWrong (t .kind)) ≡ false → Seeking text (t .end) (lineAfter t line)
 seek-next text place line t s m e =
-    let n = length text in
     let ms = marks (drop place text) in
-    let e′ : isNumber (tokenOf n ms .kind) ≡ false = rw (m .is) at e in
+    let on : SeeksOn line ms t = rw (m .is) (seeks-on (length text) line ms (rw (m .is) at e)) in
     record {
       within = m .within;
       most = omega (arith, line-most (isLineEnd (t .kind)) line, m .further, s .most);
-      head = rw (m .rest, m .is) (sym (head-on n line ms e′) ∙ s .head);
-      from = rw (m .rest) (sym (from-on n ms e′) ∙ s .from);
+      fault = rw (m .rest) (on .fault ∙ s .fault);
+      head = rw (m .rest) (on .head ∙ s .head);
+      from = rw (m .rest) (on .from ∙ s .from);
     }
 
-pub seek-here : (text : List ℕ) (place line : ℕ) (t : Token) → length text ≤ maxBytes → place < length text → Seeking text place line → Moves text place t → isNumber (t .kind) ≡ true → FoundHead text (record { line = line; place = place })
+pub seek-here : (text : List ℕ) (place line : ℕ) (t : Token) → length text ≤ maxBytes → place < length text → Seeking text place line → Moves text place t → (isNumber (t .kind) || isWrong (t .kind)) ≡ true → FoundHead text (record { line = line; place = place })
 seek-here text place line t h l s m e =
-    let n = length text in
     let ms = marks (drop place text) in
-    let e′ : isNumber (tokenOf n ms .kind) ≡ true = rw (m .is) at e in
+    let off : isGranted (faultFrom 1 (marks text)) ≡ true → (line ≡ headLine line ms) × (ms ≡ fromHead ms) = λ g. seeks-off (length text) line ms (rw (m .is) at e) (rw (s .fault) g) in
     record {
-      line = sym (head-off n line ms e′) ∙ s .head;
+      fault = s .fault;
       small = omega (arith, s .most);
       within = s .within;
-      there = sym (from-off n ms e′) ∙ s .from;
+      line = λ g. off g .0 ∙ s .head;
+      there = λ g. off g .1 ∙ s .from;
     }
 
 pub seek-none : (text : List ℕ) (place line : ℕ) → Seeking text place line → marks (drop place text) ≡ [] → FoundHead text (record { line = 0; place = place })
-unfolding headLine fromHead
+unfolding faultFrom headLine fromHead
 seek-none text place line s e =
     record {
-      line = rw e at (s .head);
+      fault = rw e (rw e at (s .fault));
       small = omega arith;
       within = s .within;
-      there = e ∙ (rw e at (s .from));
+      line = λ _. rw e at (s .head);
+      there = λ _. e ∙ (rw e at (s .from));
     }
 
 -- ---- the numbers of a line
@@ -195,6 +162,8 @@ pub record Rowing (text : List ℕ) (ms : List Mark) (place : ℕ) (row : Row) :
   pub within : place ≤ length text
   pub end : row .end ≡ place
   pub size : row .count ≤ place
+  pub clean : row .fault ≡ 0
+  pub fault : (on : ℕ) → faultFrom on (marks (drop place text)) ≡ faultFrom on ms
   pub count : row .count + length (lineNumbers (marks (drop place text))) ≡ length (lineNumbers ms)
   pub five : sets (row .five) (row .count) (lineNumbers (marks (drop place text))) ≡ sets noNumbers 0 (lineNumbers ms)
   pub after : afterLine (marks (drop place text)) ≡ afterLine ms
@@ -213,9 +182,28 @@ taken-size : (b : Bool) (k place end : ℕ) → k ≤ place → place < end → 
 taken-size true k place end h l = omega arith
 taken-size false k place end h l = omega arith
 
-pub row-next : (text : List ℕ) (ms : List Mark) (place : ℕ) (row : Row) (t : Token) → Rowing text ms place row → Moves text place t → isLineEnd (t .kind) ≡ false → Rowing text ms (t .end) (rowAfter row t)
+-- a token ends the row if it ends the line or is refused
+goes-on : (a b : Bool) → (a || not b) ≡ false → (a ≡ false) × (b ≡ true)
+goes-on true b e = absurd (true≢false e)
+goes-on false true e = (refl, refl)
+goes-on false false e = absurd (true≢false e)
+
+line-ends : (a b : Bool) → (a || not b) ≡ true → b ≡ true → a ≡ true
+line-ends true b e h = refl
+line-ends false true e h = absurd (false≢true e)
+line-ends false false e h = h
+
+ends-on : (a b : Bool) (on : ℕ) (v : Verdict) (ms : List Mark) → (a || not b) ≡ true → given (not b) v (faultFrom (on + 1) ms) ≡ given (not b) v (faultFrom (cond a (on + 1) on) ms)
+ends-on true b on v ms e = refl
+ends-on false true on v ms e = absurd (false≢true e)
+ends-on false false on v ms e = refl
+
+pub row-next : (text : List ℕ) (ms : List Mark) (place : ℕ) (row : Row) (t : Token) → Rowing text ms place row → Moves text place t → (isLineEnd (t .kind) || not (eqb (faultOf t) 0)) ≡ false → Rowing text ms (t .end) (rowAfter row t)
 unfolding rowAfter
-row-next text ms place row t r m e =
+row-next text ms place row t r m ends =
+    let goes = goes-on (isLineEnd (t .kind)) (eqb (faultOf t) 0) ends in
+    let e = goes .0 in
+    let z = eqb-true (faultOf t) 0 (goes .1) in
     let n = length text in
     let here = marks (drop place text) in
     let e′ : isLineEnd (tokenOf n here .kind) ≡ false = rw (m .is) at e in
@@ -224,6 +212,8 @@ row-next text ms place row t r m e =
       within = m .within;
       end = refl;
       size = taken-size (isNumber (t .kind)) (row .count) place (t .end) (r .size) (m .further);
+      clean = z;
+      fault = λ on. (rw e at (fault-later text place on t m z)) ∙ r .fault on;
       count = rw (m .rest) (taken-count (isNumber (t .kind)) (row .count) (t .value) (lineNumbers (later here)) (lineNumbers ms) (rw on at (r .count)));
       five = rw (m .rest) (taken-five (isNumber (t .kind)) (row .five) (row .count) (t .value) (lineNumbers (later here)) ∙ (rw on at (r .five)));
       after = rw (m .rest) (sym (after-on n here e′) ∙ r .after);
@@ -243,9 +233,9 @@ five-first (a ∷ b ∷ c ∷ []) = refl
 five-first (a ∷ b ∷ c ∷ d ∷ []) = refl
 five-first (a ∷ b ∷ c ∷ d ∷ e ∷ ns) = rw (sets-past ns (a ∷ b ∷ c ∷ d ∷ e ∷ []) 5 (omega arith))
 
-pub row-ends : (text : List ℕ) (from place : ℕ) (row : Row) (t : Token) → Rowing text (marks (drop from text)) place row → Moves text place t → isLineEnd (t .kind) ≡ true → FoundRow text from (rowAfter row t)
+row-whole : (text : List ℕ) (from place : ℕ) (row : Row) (t : Token) → Rowing text (marks (drop from text)) place row → Moves text place t → isLineEnd (t .kind) ≡ true → WholeRow text from (rowAfter row t)
 unfolding rowAfter
-row-ends text from place row t r m e =
+row-whole text from place row t r m e =
     let n = length text in
     let here = marks (drop place text) in
     let ms = marks (drop from text) in
@@ -256,23 +246,35 @@ row-ends text from place row t r m e =
       count = rw (o .other) (omega (arith, count));
       five = rw (o .other) (ap openingOf five ∙ five-first (lineNumbers ms));
       end = o .end ∙ ap (λ (k : ℕ). n - k) (r .left);
-      within = m .within;
       there = m .rest ∙ sym (o .after) ∙ r .after;
     }
 
+pub row-ends : (text : List ℕ) (from place : ℕ) (row : Row) (t : Token) → Rowing text (marks (drop from text)) place row → Moves text place t → (isLineEnd (t .kind) || not (eqb (faultOf t) 0)) ≡ true → FoundRow text from (rowAfter row t)
+unfolding rowAfter
+row-ends text from place row t r m e =
+    record {
+      fault = λ on. ends-on (isLineEnd (t .kind)) (eqb (faultOf t) 0) on (ruled (faultOf t) on) (marks (drop (t .end) text)) e ∙ fault-passed text place on t m ∙ r .fault on;
+      within = m .within;
+      whole = λ z. row-whole text from place row t r m (line-ends (isLineEnd (t .kind)) (eqb (faultOf t) 0) e (eq-eqb (faultOf t) 0 z));
+    }
+
 pub row-stops : (text : List ℕ) (from place : ℕ) (row : Row) → length text ≤ place → Rowing text (marks (drop from text)) place row → marks (drop place text) ≡ [] → FoundRow text from row
-unfolding lineNumbers afterLine leftAfter
+unfolding faultFrom lineNumbers afterLine leftAfter
 row-stops text from place row h r e =
     let ms = marks (drop from text) in
     let count : row .count + 0 ≡ length (lineNumbers ms) = rw e at (r .count) in
     let five : row .five ≡ sets noNumbers 0 (lineNumbers ms) = rw e at (r .five) in
     let left : 0 ≡ leftAfter ms = rw e at (r .left) in
     record {
-      count = omega (arith, count);
-      five = ap openingOf five ∙ five-first (lineNumbers ms);
-      end = omega (arith, r .end, r .within, left);
+      fault = λ on. rw (r .clean, r .end, e) (rw e at (r .fault on));
       within = omega (arith, r .end, r .within);
-      there = rw (r .end) (e ∙ (rw e at (r .after)));
+      whole =
+          λ _. record {
+            count = omega (arith, count);
+            five = ap openingOf five ∙ five-first (lineNumbers ms);
+            end = omega (arith, r .end, r .within, left);
+            there = rw (r .end) (e ∙ (rw e at (r .after)));
+          };
     }
 
 -- ---- all numbers
@@ -312,12 +314,13 @@ pub record Tallying (text : List ℕ) (ms : List Mark) (from on teams place line
   pub least : 1 ≤ line
   pub most : line + from ≤ on + place
   pub size : tally .count ≤ place
+  pub fault : faultFrom line (marks (drop place text)) ≡ faultFrom on ms
   pub stranger : earlierOf (tally .stranger) (strangerFrom teams line (marks (drop place text))) ≡ strangerFrom teams on ms
   pub count : tally .count + length (numbersOf (marks (drop place text))) ≡ length (numbersOf ms)
 
-pub tally-next : (text : List ℕ) (ms : List Mark) (from on teams place line : ℕ) (tally : Tally) (t : Token) → Tallying text ms from on teams place line tally → Moves text place t → Tallying text ms from on teams (t .end) (lineAfter t line) (tallyAfter tally t line teams)
+pub tally-next : (text : List ℕ) (ms : List Mark) (from on teams place line : ℕ) (tally : Tally) (t : Token) → Tallying text ms from on teams place line tally → Moves text place t → faultOf t ≡ 0 → Tallying text ms from on teams (t .end) (lineAfter t line) (tallyAfter tally t line teams)
 unfolding tallyAfter
-tally-next text ms from on teams place line tally t r m =
+tally-next text ms from on teams place line tally t r m z =
     let n = length text in
     let here = marks (drop place text) in
     let next : numbersOf here ≡ cond (isNumber (t .kind)) (t .value ∷ numbersOf (later here)) (numbersOf (later here)) = rw (m .is) (numbers-on n here) in
@@ -326,6 +329,7 @@ tally-next text ms from on teams place line tally t r m =
       least = omega (arith, line-least (isLineEnd (t .kind)) line, r .least);
       most = omega (arith, line-most (isLineEnd (t .kind)) line, m .further, r .most);
       size = taken-size (isNumber (t .kind)) (tally .count) place (t .end) (r .size) (m .further);
+      fault = fault-later text place line t m z ∙ r .fault;
       stranger = rw (m .rest, m .is) (stranger-on n teams line (tally .stranger) here (r .least) ∙ r .stranger);
       count = rw (m .rest) (taken-count (isNumber (t .kind)) (tally .count) (t .value) (numbersOf (later here)) (numbersOf ms) (rw next at (r .count)));
     }
@@ -334,12 +338,20 @@ earlier-last : (s : ℕ) → earlierOf s 0 ≡ s
 earlier-last zero = refl
 earlier-last (suc s) = simp (some s)
 
-pub tally-ends : (text : List ℕ) (ms : List Mark) (from on teams place line : ℕ) (tally : Tally) → Tallying text ms from on teams place line tally → marks (drop place text) ≡ [] → tally ≡ tallyOf teams on ms
-unfolding strangerFrom numbersOf
-tally-ends text ms from on teams place line tally r e =
-    let stranger : earlierOf (tally .stranger) 0 ≡ strangerFrom teams on ms = rw e at (r .stranger) in
-    let count : tally .count + 0 ≡ length (numbersOf ms) = rw e at (r .count) in
-    rw (← stranger, earlier-last (tally .stranger), ← count, add-zero (tally .count))
+module _ (text : List ℕ) (from on teams place line : ℕ) (tally : Tally) (r : Tallying text (marks (drop from text)) from on teams place line tally) where
+  pub tally-stops : (t : Token) → Moves text place t → eqb (faultOf t) 0 ≡ false → FoundSurvey text from on teams (record { fault = ruled (faultOf t) line; tally = tally })
+  tally-stops t m z =
+      record { fault = (rw z at (fault-passed text place line t m)) ∙ r .fault; tally = λ g. absurd (false≢true (sym z ∙ g)) }
+
+  pub tally-ends : marks (drop place text) ≡ [] → FoundSurvey text from on teams (record { fault = granted; tally = tally })
+  unfolding faultFrom strangerFrom numbersOf
+  tally-ends e =
+      let stranger : earlierOf (tally .stranger) 0 ≡ strangerFrom teams on (marks (drop from text)) = rw e at (r .stranger) in
+      let count : tally .count + 0 ≡ length (numbersOf (marks (drop from text))) = rw e at (r .count) in
+      record {
+        fault = rw e at (r .fault);
+        tally = λ _. rw (← stranger, earlier-last (tally .stranger), ← count, add-zero (tally .count));
+      }
 
 -- ---- the area: its front is filled up to k, with the numbers ms
 pub record Filling (text : List ℕ) (ms : List Mark) (first area : List ℤ) (place k : ℕ) : Type 0 where

@@ -6,9 +6,9 @@ ghost use lib.ListN.{length, drop};
 ghost use Rattle.text.specs.Bytes.{classOf, isDigit};
 ghost use Rattle.text.specs.Marks.{marks, inComment};
 ghost use Rattle.text.specs.Lines.{numbersOf};
-ghost use Rattle.text.specs.Judgement.{maxBytes, ruled, isGranted, given, faultFrom, openingOf};
+ghost use Rattle.text.specs.Judgement.{maxBytes, ruled, isGranted, given, openingOf};
 ghost use Rattle.text.specs.Tokens.{stops, grown, runAt, readAs, kindOf, tokenAt, isNumber, isWrong, isLineEnd, lineAfter, faultOf, isStranger};
-ghost use Rattle.text.specs.Passes.{Skipped, FoundHead, rowAfter, FoundRow, earlierOf, tallyAfter, TallyAsked, tallyOf, refusedHeading, FoundHeading};
+ghost use Rattle.text.specs.Passes.{Skipped, FoundHead, rowAfter, FoundRow, earlierOf, tallyAfter, TallyAsked, FoundSurvey, refusedHeading, headingBy, FoundHeading};
 ghost use Rattle.text.specs.Answers.{noOpening, headerOf, RestItself, filled, scheduleOf, areaOf};
 use rules::Opening;
 
@@ -60,16 +60,17 @@ struct Run {
     end: usize,
 }
 
-// The line of the first number, 0 where there is none, and the place from which the scanner finds it.
+// The line of the first number, or of a wrong byte before it, 0 where there is neither, and the place from which the scanner finds it.
 struct Head {
     line: u32,
     place: usize,
 }
 
-// A line's numbers: how many, the first five, and the place after the line's end.
+// A line's numbers up to its end, or up to a token with 22 or 23: how many, the first five, that code or 0, and the place after it all.
 struct Row {
     count: usize,
     five: [u32; Header::NUMBERS],
+    fault: u32,
     end: usize,
 }
 
@@ -79,11 +80,17 @@ struct Tally {
     count: usize,
 }
 
-// The header's answer, with its line and the place after its line end: 0 and the text's end where the text is refused.
+// What comes after the header: its earliest byte with 22 or 23, and the numbers before that.
+struct Survey {
+    fault: Verdict,
+    tally: Tally,
+}
+
+// The header's answer, with the schedule's numbers and the place where they begin: none and the text's end where the header is refused.
 struct Heading {
     verdict: Verdict,
     opening: Opening,
-    line: u32,
+    tally: Tally,
     end: usize,
 }
 
@@ -131,30 +138,19 @@ fn is_digit(class: Class) -> bool
     }
 }
 
-// Whether the byte after one of this class is in a comment.
-fn in_comment(inside: bool, class: Class) -> bool
-    ensures { λ r. ⌜ r ≡ inComment inside class ⌝ }
+// Whether the byte after this one is in a comment. It is computed without a choice by the class, for this runs at every byte.
+fn in_comment(inside: bool, b: u8) -> bool
+    ensures { λ r. ⌜ r ≡ inComment inside (classOf b) ⌝ }
 {
-    match class {
-        Class::LineEnd => false,
-        Class::Hash => true,
-        Class::Blank => inside,
-        Class::Digit => inside,
-        Class::Other => inside,
-    }
+    (b != b'\n') & ((b == b'#') | inside)
 }
 
-// Whether a byte of this class is the first of a token: inside a comment only a line end is.
-fn is_first(inside: bool, class: Class) -> bool
-    ensures { λ r. ⌜ r ≡ stops inside class ⌝ }
+// Whether a byte is the first of a token: inside a comment only a line end is.
+fn is_first(inside: bool, b: u8) -> bool
+    ensures { λ r. ⌜ r ≡ stops inside (classOf b) ⌝ }
 {
-    match class {
-        Class::LineEnd => true,
-        Class::Hash => false,
-        Class::Blank => false,
-        Class::Digit => !inside,
-        Class::Other => !inside,
-    }
+    let blank = (b == b' ') | (b == b'\t') | (b == b'\r');
+    (b == b'\n') | !(inside | (b == b'#') | blank)
 }
 
 // The place of the next token's first byte, or the text's end.
@@ -164,11 +160,11 @@ fn skipped(text: &[u8], place: usize) -> usize
     let mut i = place;
     let mut inside = false;
     while i < text.len() {
-        let class = class_of(text[i]);
-        if is_first(inside, class) {
+        let b = text[i];
+        if is_first(inside, b) {
             return i;
         }
-        inside = in_comment(inside, class);
+        inside = in_comment(inside, b);
         i += 1;
     }
     i
@@ -323,25 +319,7 @@ fn is_stranger(t: Token, teams: u32) -> bool
 
 // ---- The passes.
 
-// The earliest byte with 22 or 23.
-fn fault(text: &[u8]) -> Verdict
-    requires { ⌜ length (now text) ≤ maxBytes ⌝ }
-    ensures { λ r. ⌜ r ≡ faultFrom 1 (marks (now (text .entry))) ⌝ }
-{
-    let mut place = 0;
-    let mut line = 1;
-    while place < text.len() {
-        let t = token_at(text, place);
-        let code = fault_of(t);
-        if code != 0 {
-            return Verdict { code, line };
-        }
-        line = line_after(t, line);
-        place = t.end;
-    }
-    Verdict { code: 0, line: 0 }
-}
-
+// The first number, or a wrong byte before it: that is left for the next pass to meet.
 fn find_head(text: &[u8]) -> Head
     requires { ⌜ length (now text) ≤ maxBytes ⌝ }
     ensures { λ r. ⌜ FoundHead (now (text .entry)) r ⌝ }
@@ -350,7 +328,7 @@ fn find_head(text: &[u8]) -> Head
     let mut line = 1;
     while place < text.len() {
         let t = token_at(text, place);
-        if is_number(t) {
+        if is_number(t) | is_wrong(t) {
             return Head { line, place };
         }
         line = line_after(t, line);
@@ -366,6 +344,7 @@ fn taken(row: Row, t: Token) -> Row
 {
     let mut five = row.five;
     let count = row.count;
+    let fault = fault_of(t);
     if is_number(t) {
         if count < Header::NUMBERS {
             five[count] = t.value;
@@ -373,18 +352,20 @@ fn taken(row: Row, t: Token) -> Row
         Row {
             count: count + 1,
             five,
+            fault,
             end: t.end,
         }
     } else {
         Row {
             count,
             five,
+            fault,
             end: t.end,
         }
     }
 }
 
-// The numbers from a place up to the line's end.
+// The numbers from a place up to the line's end, or up to a token with 22 or 23.
 fn read_row(text: &[u8], from: usize) -> Row
     requires { ⌜ from ≤ length (now text) ⌝ }
     ensures { λ r. ⌜ FoundRow (now (text .entry)) from r ⌝ }
@@ -393,12 +374,13 @@ fn read_row(text: &[u8], from: usize) -> Row
     let mut row = Row {
         count: 0,
         five: [0; Header::NUMBERS],
+        fault: 0,
         end: from,
     };
     while place < text.len() {
         let t = token_at(text, place);
         row = taken(row, t);
-        if ends_line(t) {
+        if ends_line(t) | (row.fault != 0) {
             return row;
         }
         place = t.end;
@@ -433,10 +415,10 @@ fn tallied(tally: Tally, t: Token, line: u32, teams: u32) -> Tally
     }
 }
 
-// The schedule's numbers from a place on, which stands on the given line.
-fn count_numbers(text: &[u8], from: usize, on: u32, teams: u32) -> Tally
+// The schedule's numbers from a place on, which stands on the given line, up to a token with 22 or 23.
+fn count_numbers(text: &[u8], from: usize, on: u32, teams: u32) -> Survey
     requires { ⌜ TallyAsked (now text) from on ⌝ }
-    ensures { λ r. ⌜ r ≡ tallyOf teams on (marks (drop from (now (text .entry)))) ⌝ }
+    ensures { λ r. ⌜ FoundSurvey (now (text .entry)) from on teams r ⌝ }
 {
     let mut place = from;
     let mut line = on;
@@ -446,11 +428,21 @@ fn count_numbers(text: &[u8], from: usize, on: u32, teams: u32) -> Tally
     };
     while place < text.len() {
         let t = token_at(text, place);
+        let code = fault_of(t);
+        if code != 0 {
+            return Survey {
+                fault: Verdict { code, line },
+                tally,
+            };
+        }
         tally = tallied(tally, t, line, teams);
         line = line_after(t, line);
         place = t.end;
     }
-    tally
+    Survey {
+        fault: Verdict { code: 0, line: 0 },
+        tally,
+    }
 }
 
 // The numbers from a place on, into the front of the area.
@@ -517,8 +509,23 @@ fn refused(verdict: Verdict, end: usize) -> Heading
     Heading {
         verdict,
         opening,
-        line: 0,
+        tally: Tally {
+            stranger: 0,
+            count: 0,
+        },
         end,
+    }
+}
+
+// What was found, where its verdict grants it.
+fn if_granted(found: Heading, end: usize) -> Heading
+    ensures { λ r. ⌜ r ≡ headingBy found end ⌝ }
+{
+    let verdict = found.verdict;
+    if verdict.code == 0 {
+        found
+    } else {
+        refused(verdict, end)
     }
 }
 
@@ -533,20 +540,25 @@ fn judge_header(text: &[u8]) -> Heading
     let head = find_head(text);
     let row = read_row(text, head.place);
     let opening = opening_of(row);
+    let survey = count_numbers(
+        text,
+        row.end,
+        head.line + 1,
+        numbers::natural(opening.teams),
+    );
     let granted = Verdict { code: 0, line: 0 };
     let limits = ruled_by(!opening.is_good(), 20, head.line, granted);
     let numbers = ruled_by(row.count != Header::NUMBERS, 24, head.line, limits);
-    let verdict = refused_or(fault(text), numbers);
-    if verdict.code == 0 {
-        Heading {
-            verdict,
-            opening,
-            line: head.line,
-            end: row.end,
-        }
-    } else {
-        refused(verdict, n)
-    }
+    let fault = ruled_by(row.fault != 0, row.fault, head.line, survey.fault);
+    let verdict = refused_or(fault, numbers);
+    let tally = survey.tally;
+    let found = Heading {
+        verdict,
+        opening,
+        tally,
+        end: row.end,
+    };
+    if_granted(found, n)
 }
 
 // ---- The readers.
@@ -578,7 +590,7 @@ pub fn read_schedule(text: &[u8], area: &mut [i32]) -> Schedule
     let h = judge_header(text);
     let opening = h.opening;
     let from = h.end;
-    let tally = count_numbers(text, from, h.line + 1, numbers::natural(opening.teams));
+    let tally = h.tally;
     let granted = Verdict { code: 0, line: 0 };
     let room = ruled_by(area.len() < tally.count, 27, 0, granted);
     let body = ruled_by(tally.stranger != 0, 26, tally.stranger, room);

@@ -1,13 +1,56 @@
 -- The passes give what the definitions speak of, and the tests are theirs, last test first.
 use mathlib.Core.Path.{_≡_, refl, _∙_}
+use mathlib.Core.List.{List}
+use Prim.Native.Nat.{ℕ}
 use lib.ListN.{length}
-use borrow.Author.Tests.{eq-eqb, ne-eqb}
+use Rattle.numbers.proofs.Signed.{told}
+use Rattle.numbers.specs.Fields.{natOf}
 use Rattle.text.specs.Marks.{marks}
 use Rattle.text.specs.Judgement.{ruled, headerVerdict}
-use Rattle.text.proofs.Judging.{long-verdict, header-verdict, refused-heading, row-count, row-opening, granted-heading}
+use Rattle.text.proofs.Judging.{long-verdict, refused-heading, found-verdict, found-heading}
 use borrow.Author.Needs.{needs}
 use Rattle.text.proofs.judge_header.Statement.{statement}
 use Rattle.text.proofs.judge_header.Tie as tie
+
+-- the passes over the text were made
+abbrev Passed : Type 0
+Passed = tie.After-count-numbers
+
+abbrev opened : Passed → tie.After-opening-of
+opened c = c .before .before .before .before
+
+abbrev rowed : Passed → tie.After-read-row
+rowed c = opened c .before
+
+abbrev headed : Passed → tie.After-find-head
+headed c = rowed c .before
+
+abbrev text : Passed → List ℕ
+text c = headed c .before .before .before .args .text .now
+
+teams : (c : Passed) → c .before .natural .result ≡ natOf (opened c .opening-of .result .teams)
+teams c =
+    c .before .natural .ensures ∙ rw (told (opened c .opening-of .result .teams) (c .before .before .struct-told .given .1 .1 .0 .1))
+
+-- the tests were made
+abbrev Tested : Type 0
+Tested = tie.After-refused-or
+
+abbrev passed : Tested → Passed
+passed c = c .before .before .before .before .before .before .before
+
+verdict : (c : Tested) → c .refused-or .result ≡ headerVerdict (length (text (passed c))) (marks (text (passed c)))
+verdict c =
+    let p = passed c in
+    let head = headed p .find-head in
+    let row = rowed p .read-row in
+    found-verdict (text p) _ (head .result) (row .result) (p .count-numbers .result) (head .ensures) (row .ensures) (p .count-numbers .ensures) (headed p .before .if1 .left) (opened p .opening-of .result) _ _ _ _ _
+    (opened p .opening-of .ensures)
+    (c .before .before .before .before .before .before .is-good .ensures)
+    (c .before .before .before .before .before .ruled-by .ensures)
+    (c .before .before .before .ruled-by2 .ensures)
+    (c .before .ruled-by3 .ensures)
+    (c .refused-or .ensures)
 
 refused-requires : tie.Need-refused-requires
 refused-requires c κs = search needs
@@ -26,6 +69,15 @@ read-row-requires c κs = search needs
 opening-of-requires : tie.Need-opening-of-requires
 opening-of-requires c κs = search needs
 
+add-count-numbers : tie.Need-add-count-numbers
+add-count-numbers c = search needs
+
+natural-requires : tie.Need-natural-requires
+natural-requires c κs = search needs
+
+count-numbers-requires : tie.Need-count-numbers-requires
+count-numbers-requires c κs = search needs
+
 is-good-requires : tie.Need-is-good-requires
 is-good-requires c κs = search needs
 
@@ -35,44 +87,22 @@ ruled-by-requires c κs = search needs
 ruled-by-requires-2 : tie.Need-ruled-by-requires-2
 ruled-by-requires-2 c κs = search needs
 
-fault-requires : tie.Need-fault-requires
-fault-requires c κs = search needs
+ruled-by-requires-3 : tie.Need-ruled-by-requires-3
+ruled-by-requires-3 c κs = search needs
 
 refused-or-requires : tie.Need-refused-or-requires
 refused-or-requires c κs = search needs
 
-refused-requires-2 : tie.Need-refused-requires-2
-refused-requires-2 c κs = search needs
+if-granted-requires : tie.Need-if-granted-requires
+if-granted-requires c κs = search needs
 
 returns-2 : tie.Need-returns-2
 returns-2 c =
-    let text = c .before .before .before .before .before .before .before .before .before .before .before .before .before .args .text .now in
-    let head = c .before .before .before .before .before .before .before .before .before .before .find-head in
-    let row = c .before .before .before .before .before .before .before .before .before .read-row in
-    let good = c .before .before .before .before .before .before .before .is-good in
-    let fault = c .before .before .before .fault in
-    let opening = c .before .before .before .before .before .before .before .before .opening-of .ensures ∙ row-opening text (head .result) (row .result) (head .ensures) (row .ensures) in
-    let verdict : c .before .before .refused-or .result ≡ headerVerdict (length text) (marks text) =
-    c .before .before .refused-or .ensures
-    ∙ rw
-    (c .before .before .before .before .ruled-by2 .ensures, c .before .before .before .before .before .before .ruled-by .ensures, good .ensures)
-    (header-verdict (length text) (marks text) (c .before .before .before .before .before .before .before .before .before .before .before .if1 .left) (fault .result) (head .result .line) (row .result .count) _ (fault .ensures) (head .ensures .line) (row-count text (head .result) (row .result) (head .ensures) (row .ensures)) opening) in
-    granted-heading text (head .result) (row .result) (head .ensures) (row .ensures) (c .before .before .before .before .before .before .before .before .before .before .before .if1 .left) _ _ (c .before .before .before .before .before .before .before .before .opening-of .ensures) verdict (eq-eqb _ 0 (c .if2 .taken))
-
-returns-3 : tie.Need-returns-3
-returns-3 c =
-    let text = c .before .before .before .before .before .before .before .before .before .before .before .before .before .before .args .text .now in
-    let head = c .before .before .before .before .before .before .before .before .before .before .before .find-head in
-    let row = c .before .before .before .before .before .before .before .before .before .before .read-row in
-    let good = c .before .before .before .before .before .before .before .before .is-good in
-    let fault = c .before .before .before .before .fault in
-    let opening = c .before .before .before .before .before .before .before .before .before .opening-of .ensures ∙ row-opening text (head .result) (row .result) (head .ensures) (row .ensures) in
-    let verdict : c .before .before .before .refused-or .result ≡ headerVerdict (length text) (marks text) =
-    c .before .before .before .refused-or .ensures
-    ∙ rw
-    (c .before .before .before .before .before .ruled-by2 .ensures, c .before .before .before .before .before .before .before .ruled-by .ensures, good .ensures)
-    (header-verdict (length text) (marks text) (c .before .before .before .before .before .before .before .before .before .before .before .before .if1 .left) (fault .result) (head .result .line) (row .result .count) _ (fault .ensures) (head .ensures .line) (row-count text (head .result) (row .result) (head .ensures) (row .ensures)) opening) in
-    rw (c .refused2 .ensures) (refused-heading text _ verdict (ne-eqb _ 0 (c .before .if2 .left)))
+    let v = c .before .before in
+    let p = passed v in
+    rw
+    (c .if-granted .ensures)
+    (found-heading (text p) (p .before .natural .result) (headed p .find-head .result) (rowed p .read-row .result) (p .count-numbers .result) (headed p .find-head .ensures) (rowed p .read-row .ensures) (p .count-numbers .ensures) (v .refused-or .result) (opened p .opening-of .result) (opened p .opening-of .ensures) (teams p) (verdict v))
 
 pub judge-header-spec : {M : Type 1} → statement M
 judge-header-spec =
@@ -83,11 +113,13 @@ judge-header-spec =
     find-head-requires
     read-row-requires
     opening-of-requires
+    add-count-numbers
+    natural-requires
+    count-numbers-requires
     is-good-requires
     ruled-by-requires
     ruled-by-requires-2
-    fault-requires
+    ruled-by-requires-3
     refused-or-requires
-    refused-requires-2
-    returns-2
-    returns-3)
+    if-granted-requires
+    returns-2)

@@ -21,19 +21,16 @@ abbrev μ-loop : tie.MeasureT-loop
 loop-holds : tie.Need-loop-holds Inv-loop μ-loop
 loop-holds c = record { from = omega arith; within = λ h. h; same = refl }
 
-shared-slice-read-class-of : tie.Need-shared-slice-read-class-of Inv-loop μ-loop
-shared-slice-read-class-of c = search needs
-
-class-of-requires : tie.Need-class-of-requires Inv-loop μ-loop
-class-of-requires c κs = search needs
+shared-slice-read-b : tie.Need-shared-slice-read-b Inv-loop μ-loop
+shared-slice-read-b c = search needs
 
 is-first-requires : tie.Need-is-first-requires Inv-loop μ-loop
 is-first-requires c κs = search needs
 
 returns : tie.Need-returns Inv-loop μ-loop
 returns c =
-    let text = c .before .before .before .before .before .before .before .args .text .now in
-    let l = c .before .before .before .before .before .loop in
+    let text = c .before .before .before .before .before .before .args .text .now in
+    let l = c .before .before .before .before .loop in
     let first : stops (l .inside) (classOf (getD text (l .i) 0)) ≡ true = cc in
     record {
       from = l .inv .from;
@@ -53,8 +50,8 @@ loop-less c = omega arith
 
 loop-again : tie.Need-loop-again Inv-loop μ-loop
 loop-again c =
-    let text = c .before .before .before .before .before .before .before .before .args .text .now in
-    let l = c .before .before .before .before .before .before .loop in
+    let text = c .before .before .before .before .before .before .before .args .text .now in
+    let l = c .before .before .before .before .before .loop in
     let other : stops (l .inside) (classOf (getD text (l .i) 0)) ≡ false = cc in
     let on : c .in-comment .result ≡ inComment (l .inside) (classOf (getD text (l .i) 0)) = cc in
     record {
@@ -82,8 +79,7 @@ skipped-spec =
     Inv-loop
     μ-loop
     loop-holds
-    shared-slice-read-class-of
-    class-of-requires
+    shared-slice-read-b
     is-first-requires
     returns
     in-comment-requires
