@@ -49,7 +49,6 @@ enum {
     POSITION_STALE = 10,
     NO_OWNER = 11,
     IS_THE_OWNER = 12,
-    ONE_SHEET_LEFT = 13,
     NO_ROOM_TO_STEAL = 14,
     NOT_NEGATIVE = 15,
     HAS_CHILDREN = 16,
@@ -443,8 +442,6 @@ static struct answer mark(int team, int number, int position)
         return refuse(IS_COMPLETED);
     if (position != node->progress)
         return refuse(POSITION_STALE);
-    if (node->until - position == 1)
-        return refuse(ONE_SHEET_LEFT);
     if (used + 2 * stolen + 2 > run.nodes)
         return refuse(NO_ROOM_TO_STEAL);
     node->progress = -position - 1;
@@ -511,7 +508,7 @@ static void step_seek(int team, struct record *record)
         record->place = STOPPED;
     else if (seen.state == AVAILABLE)
         go(record, TAKE, node);
-    else if (seen.state == OWNED && seen.owner != team && seen.to - seen.from >= 2)
+    else if (seen.state == OWNED && seen.owner != team)
         go_at(record, MARK, node, seen.from);
     else if (seen.state == STOLEN)
         go_beside(record, SPLIT, node, RIGHT);

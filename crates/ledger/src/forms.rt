@@ -32,7 +32,7 @@ fn alone_ok(teams: u32, x: Node) -> bool
 {
     let p = nodes::position_of(x);
     let marked = nodes::is_marked(x);
-    let inside = (x.start <= p) & (p <= x.until) & (!marked | ((p as u64) + 2 <= (x.until as u64)));
+    let inside = (x.start <= p) & (p <= x.until) & (!marked | ((p as u64) + 1 <= (x.until as u64)));
     let nobody = nodes::is_unowned(x);
     let fresh = !nobody | numbers::is_number(x.progress, x.start);
     let empty = !(x.start == x.until) | nobody;

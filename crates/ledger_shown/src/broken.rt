@@ -65,7 +65,7 @@ fn root(rule: u32, start: u32, until: u32, progress: i32, owner: u32) {
     show(rule, ask::with(ask::opened(2, 5, 2, 7), 1, x), 1);
 }
 
-// 3: "the root has the ledger's range". 4: "each progress lies in start..until, or is negative with position from start to until - 2".
+// 3: "the root has the ledger's range". 4: "each progress lies in start..until, or is negative with position from start to until - 1".
 // 5: "owners are 0..teams". 6: "an unowned node has progress = start".
 fn roots() {
     root(3, 3, 5, 3, 0);
@@ -74,7 +74,7 @@ fn roots() {
     root(4, 2, 5, 1, 1);
     root(4, 2, 5, -2, 1);
     root(0, 2, 5, -4, 1);
-    root(4, 2, 5, -5, 1);
+    root(0, 2, 5, -5, 1);
     root(4, 2, 5, -6, 1);
     root(4, 2, 5, 2147483647, 1);
     root(4, 2, 5, -2147483648, 1);
@@ -96,7 +96,7 @@ fn lone() {
         1,
     );
     show(4, ask::rooted(2147483647, 7, -2147483648, 1), 1);
-    show(4, ask::rooted(2147483647, 7, -2147483647, 1), 1);
+    show(0, ask::rooted(2147483647, 7, -2147483647, 1), 1);
     let one = ask::with(ask::halved(5), 2, ask::node(3, 5, -4, 1, 0));
     show(0, one, 2);
     show(11, ask::with(one, 3, ask::node(5, 8, -6, 2, 0)), 3);

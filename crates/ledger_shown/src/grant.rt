@@ -24,6 +24,17 @@ fn states() {
     ask::show(l, ask::LOOK, 2, 3, 0, 0);
 }
 
+// The last sheet of a silent laptop: the mark is granted, the left node is empty, COMPLETED and nobody's, and the right one has the sheet.
+fn last_sheet() {
+    let mut l = ask::rooted(5, 7, 4, 1);
+    l = ask::show(l, ask::MARK, 2, 1, 4, 0);
+    l = ask::show(l, ask::EXPAND, 2, 1, 0, 0);
+    l = ask::show(l, ask::LOOK, 2, 2, 0, 0);
+    l = ask::tested(6, 0, l, ask::OWN, 2, 2, 0, 0);
+    l = ask::show(l, ask::OWN, 2, 3, 0, 0);
+    ask::show(l, ask::ADVANCE, 2, 3, 4, 1);
+}
+
 // Fields that a kind does not read may hold anything.
 fn unread() {
     let mut l = ask::opened(0, 2, 2, 3);
@@ -52,8 +63,10 @@ fn ends() {
     wide(2147483646, ask::ADVANCE, 1, 2147483646, 4096);
     wide(0, ask::MARK, 2, 0, 0);
     wide(2147483645, ask::MARK, 2, 2147483645, 0);
+    wide(2147483646, ask::MARK, 2, 2147483646, 0);
     wide(-1, ask::EXPAND, 2, 0, 0);
     wide(-2147483646, ask::EXPAND, 2, 0, 0);
+    wide(-2147483647, ask::EXPAND, 2, 0, 0);
     wide(-2147483646, ask::LOOK, 2, 0, 0);
     ask::show(
         ask::opened(2147483646, 2147483647, 1, 1),
@@ -76,6 +89,7 @@ fn ends() {
 
 pub(crate) fn all() {
     states();
+    last_sheet();
     unread();
     ends();
 }

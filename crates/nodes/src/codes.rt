@@ -1,9 +1,7 @@
 // The refusals: each request's tests in the order of document 01's table. The last test is written first, since each line gives what the later ones leave.
 ghost use mathlib.Core.Path.{_≡_};
-ghost use lib.Dec.{eqb};
 ghost use Rattle.numbers.specs.Fields.{within, isNat, sameNumber};
 ghost use Rattle.rules.specs.Limits.{maxAmount};
-ghost use Rattle.rules.specs.Nodes.{leftOver};
 ghost use Rattle.rules.specs.Refusals.{noRoom, noPair, ownCode, advanceCode, markCode, expandCode, kindCode, refusal};
 use rules::Node;
 use rules::Request;
@@ -45,12 +43,6 @@ fn at_progress(x: Node, r: Request) -> bool
     numbers::same_number(r.position, x.progress)
 }
 
-fn one_left(x: Node) -> bool
-    ensures { λ b. ⌜ b ≡ eqb (leftOver x) 1 ⌝ }
-{
-    crate::left_over(x) == 1
-}
-
 // The sums are taken in 64 bits, where no number of a view can make them wrap.
 fn no_room(v: View) -> bool
     ensures { λ b. ⌜ b ≡ noRoom v ⌝ }
@@ -86,8 +78,7 @@ fn mark_code(v: View, r: Request) -> u32
 {
     let x = v.node;
     let c14 = numbers::given_code(no_room(v), 14, 0);
-    let c13 = numbers::given_code(one_left(x), 13, c14);
-    let c10 = numbers::given_code(!at_progress(x, r), 10, c13);
+    let c10 = numbers::given_code(!at_progress(x, r), 10, c14);
     let c6 = numbers::given_code(crate::is_completed(x), 6, c10);
     let c9 = numbers::given_code(crate::is_marked(x), 9, c6);
     let c12 = numbers::given_code(by_owner(x, r), 12, c9);

@@ -89,10 +89,10 @@ pub fn asks_of(number: u32, t: Team) -> Request
 fn is_stealable(number: u32, a: Answer) -> bool
     ensures { λ r. ⌜ r ≡ stealable number a ⌝ }
 {
-    (a.state == OWNED) & (!(a.owner == number) & (2 <= numbers::less_by(a.to, a.from)))
+    (a.state == OWNED) & !(a.owner == number)
 }
 
-// An OWNED node is marked where there is something to steal, and else passed.
+// An OWNED node of another team is marked, and the team's own is passed.
 fn owned_moves(number: u32, t: Team, a: Answer) -> Team
     ensures { λ r. ⌜ (t .node ≤ maxNode → r ≡ cond (stealable number a) (mark t (t .node) (a .«from»)) (onward t)) ⌝ }
 {

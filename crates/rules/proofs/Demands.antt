@@ -1,26 +1,30 @@
 -- The demands on the ledger, proved.
-use mathlib.Core.Path.{_≡_, refl}
+use mathlib.Core.Path.{_≡_, refl, ap, _∙_}
 use mathlib.Core.Bool.{Bool, true, false, cond}
+use Prim.Native.Nat.{ℕ}
 use native.Mathlib.Omega.{arith}
+use lib.IntN.{pos}
 use Rattle.numbers.specs.Fields.{natOf}
+use Rattle.numbers.proofs.Laws.{isNat-made}
 use Rattle.rules.specs.declared.Ledger.{Ledger}
 use Rattle.rules.specs.declared.Opened.{Opened}
 use Rattle.rules.specs.declared.Request.{Request}
-use Rattle.rules.specs.Demands.{OpeningWellFormed, RequestsKeepWellFormed, RefusalsChangeNothing, RoomForEverySplit, Moves, RequestsFollowMoves}
+use Rattle.rules.specs.Demands.{OpeningWellFormed, RequestsKeepWellFormed, RefusalsChangeNothing, RoomForEverySplit, OwnedHasSome, LastSheet, EmptyNeverOwned, Moves, RequestsFollowMoves}
 use Rattle.rules.specs.Limits.{opens}
 use Rattle.rules.specs.Moves.{leads}
+use Rattle.rules.specs.Nodes.{fresh, positionOf, middle, leftPart, rightPart}
 use Rattle.rules.specs.Opening.{opening, ledgerOf, closed}
 use Rattle.rules.specs.Requests.{nodeIn, answered, requested}
 use Rattle.rules.specs.States.{stateOf}
 use Rattle.rules.specs.Table.{at}
 use Rattle.rules.specs.WellFormed.{wellFormed}
 use Rattle.rules.proofs.Expand.{room-left}
-use Rattle.rules.proofs.Granted.{answers}
+use Rattle.rules.proofs.Granted.{not-yet, answers}
 use Rattle.rules.proofs.Keeps.{wf-answered, requested-wf, refused-keeps}
 use Rattle.rules.proofs.Moves.{moves, others, none}
 use Rattle.rules.proofs.Opens.{opened-wf}
 use Rattle.rules.proofs.Record.{WF, rules, rules-back}
-use Rattle.rules.proofs.States.{is-stolen}
+use Rattle.rules.proofs.States.{is-stolen, is-owned, completed-is}
 
 pub opening-well-formed : OpeningWellFormed
 unfolding opening
@@ -43,6 +47,25 @@ refusals-change-nothing = refused-keeps
 
 pub room-for-every-split : RoomForEverySplit
 room-for-every-split l n slots e low high s = room-left l (rules l slots e) n low high (is-stolen (at l n) s)
+
+pub owned-has-some : OwnedHasSome
+owned-has-some l n slots e low high s =
+    let x = at l n in
+    let o = is-owned x s in
+    omega (arith, rules l slots e .alone n low high .high, not-yet (x .progress) (x .until) (o .plain) (o .going))
+
+pub last-sheet : LastSheet
+unfolding leftPart rightPart middle
+last-sheet x one =
+    let same : middle x ≡ positionOf x = omega (arith, one) in
+    (ap (λ (m : ℕ). fresh (positionOf x) m) same, ap (λ (m : ℕ). fresh m (x .until)) same)
+
+pub empty-never-owned : EmptyNeverOwned
+empty-never-owned l n slots e low high empty =
+    let x = at l n in
+    let alone = rules l slots e .alone n low high in
+    let nobody = alone .empty empty in
+    (completed-is x (rw (alone .unowned nobody ∙ ap pos empty) (isNat-made (x .until))), nobody)
 
 follow : (l : Ledger) (r : Request) → WF l → Moves l r (requested l r .ledger)
 follow l r w =

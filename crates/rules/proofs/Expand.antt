@@ -26,7 +26,7 @@ alone-fresh teams a b h =
     record {
       low = omega arith;
       high = h;
-      two-left = λ (e : false ≡ true). let z : _≡_ {A = ℕ} 0 1 = cc in omega arith;
+      some-left = λ (e : false ≡ true). let z : _≡_ {A = ℕ} 0 1 = cc in omega arith;
       owner = omega arith;
       unowned = λ e. refl;
       empty = λ e. refl;
@@ -97,7 +97,7 @@ module _ (l : Ledger) (w : WF l) (n : ℕ) (low : 1 ≤ n) (high : n ≤ l .used
       record {
         low = alone-x .low;
         high = alone-x .high;
-        two-left = alone-x .two-left;
+        some-left = alone-x .some-left;
         owner = alone-x .owner;
         unowned = alone-x .unowned;
         empty = alone-x .empty;

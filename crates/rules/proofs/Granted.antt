@@ -17,7 +17,7 @@ use Rattle.rules.specs.declared.Answered.{Answered}
 use Rattle.rules.specs.declared.View.{View}
 use Rattle.rules.specs.declared.Change.the-variants.{Keep}
 use Rattle.rules.specs.Limits.{maxAmount}
-use Rattle.rules.specs.Nodes.{owned, moved, parted, marked, unowned, childless, positionOf, leftOver, middle, leftPart, rightPart}
+use Rattle.rules.specs.Nodes.{owned, moved, parted, marked, unowned, childless, positionOf, middle, leftPart, rightPart}
 use Rattle.rules.specs.States.{completed}
 use Rattle.rules.specs.Table.{at, put, grown, stolenIn}
 use Rattle.rules.specs.Refusals.{allTests, ownTests, advanceTests, markTests, expandTests, ownCode, advanceCode, markCode, expandCode, kindCode, refusal}
@@ -57,7 +57,6 @@ pub record Marking (x : Node) (r : Request) (load room : ℕ) : Type 0 where
   pub somebody : x .owner ≢ 0
   pub other : x .owner ≢ natOf (r .team)
   pub here : Here x r
-  pub two : leftOver x ≢ 1
   pub fits : load + 2 ≤ room
 
 pub record Expanding (x : Node) (used room : ℕ) : Type 0 where
@@ -104,7 +103,7 @@ unmarked : (z p : ℤ) → negative z ≡ false → p ≡ z → (z ≡ pos (posi
 unmarked (pos n) p t e = (refl, rw e)
 unmarked (negsuc n) p t e = absurd (true≢false t)
 
-not-yet : (z : ℤ) (u : ℕ) → negative z ≡ false → isNat z u ≡ false → position z ≢ u
+pub not-yet : (z : ℤ) (u : ℕ) → negative z ≡ false → isNat z u ≡ false → position z ≢ u
 not-yet (pos n) u t e = eqb-false n u e
 not-yet (negsuc n) u t e = absurd (true≢false t)
 
@@ -151,8 +150,7 @@ mark-facts v r team e =
       somebody = eqb-false (v .node .owner) 0 (t .0);
       other = λ f. true≢false (sym (rw (team, ← f) (isNat-made (v .node .owner))) ∙ t .1 .0);
       here = here-is (v .node) r (t .1 .1 .0) (t .1 .1 .1 .0) (t .1 .1 .1 .1 .0);
-      two = eqb-false (leftOver (v .node)) 1 (t .1 .1 .1 .1 .1 .0);
-      fits = omega (arith, simp ltb-f at (t .1 .1 .1 .1 .1 .1 .0));
+      fits = omega (arith, simp ltb-f at (t .1 .1 .1 .1 .1 .0));
     }
 
 pub expand-facts : (v : View) → expandCode v ≡ 0 → Expanding (v .node) (v .used) (v .room)

@@ -53,7 +53,7 @@ module _ (l : Ledger) (w : WF l) (r : Request) (asked : Asked (l .teams) (l .use
       (record {
         low = alone .low;
         high = alone .high;
-        two-left = alone .two-left;
+        some-left = alone .some-left;
         owner = asked .team .high;
         unowned = λ z. absurd (omega (arith, asked .team .low));
         empty = λ z. absurd (true≢false (sym (rw (alone .unowned (o .nobody), z) (isNat-made (x .until))) ∙ o .going));
@@ -78,7 +78,7 @@ module _ (l : Ledger) (w : WF l) (r : Request) (asked : Asked (l .teams) (l .use
       (record {
         low = omega (arith, a .end, alone .low, alone .high);
         high = omega (arith, a .end);
-        two-left = λ (e : false ≡ true). absurd (true≢false (sym e));
+        some-left = λ (e : false ≡ true). absurd (true≢false (sym e));
         owner = alone .owner;
         unowned = λ z. absurd (omega (arith, a .mine, asked .team .low));
         empty = alone .empty;
@@ -103,7 +103,7 @@ module _ (l : Ledger) (w : WF l) (r : Request) (asked : Asked (l .teams) (l .use
       (record {
         low = alone .low;
         high = alone .high;
-        two-left = λ e. omega (arith, alone .high, p .more, m .two);
+        some-left = λ e. omega (arith, alone .high, p .more);
         owner = alone .owner;
         unowned = λ z. absurd (m .somebody z);
         empty = alone .empty;

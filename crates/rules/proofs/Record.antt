@@ -21,7 +21,7 @@ use Rattle.rules.proofs.Nodes.{at-out}
 pub record Alone (teams : ℕ) (x : Node) : Type 0 where
   pub low : x .start ≤ positionOf x
   pub high : positionOf x ≤ x .until
-  pub two-left : marked x ≡ true → positionOf x + 2 ≤ x .until
+  pub some-left : marked x ≡ true → positionOf x + 1 ≤ x .until
   pub owner : x .owner ≤ teams
   pub unowned : x .owner ≡ 0 → x .progress ≡ pos (x .start)
   pub empty : x .start ≡ x .until → x .owner ≡ 0

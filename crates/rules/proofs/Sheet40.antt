@@ -126,7 +126,7 @@ module _ (l : Ledger) (r : Request) (later : List Request) (w : WF l) (g : Split
       b = new-onward (left + 1) (omega arith) (omega arith)
 
       unclaimed : s < x .until
-      unclaimed = omega (arith, w .alone (nodeIn r) (p .asked .node .low) (p .asked .node .high) .two-left (p .facts .mark))
+      unclaimed = omega (arith, w .alone (nodeIn r) (p .asked .node .low) (p .asked .node .high) .some-left (p .facts .mark))
 
       go : Dec (s < middle x)
           → InNode s (at next left) ⊎ InNode s (at next (left + 1))

@@ -8,14 +8,16 @@ use Prim.Native.Nat.{ℕ, _+_, _≤_}
 use lib.ListN.{length}
 use Rattle.numbers.specs.Fields.{natOf}
 use Rattle.rules.specs.declared.Ledger.{Ledger}
+use Rattle.rules.specs.declared.Node.{Node}
 use Rattle.rules.specs.declared.Opening.{Opening}
 use Rattle.rules.specs.declared.Request.{Request}
 use Rattle.rules.specs.Examples.{examples, AllRight}
 use Rattle.rules.specs.Limits.{maxNodes}
 use Rattle.rules.specs.Moves.{leads, isIn}
+use Rattle.rules.specs.Nodes.{fresh, positionOf, leftOver, leftPart, rightPart}
 use Rattle.rules.specs.Opening.{opening}
 use Rattle.rules.specs.Requests.{nodeIn, refused, requested}
-use Rattle.rules.specs.States.{STOLEN, stateOf}
+use Rattle.rules.specs.States.{OWNED, COMPLETED, STOLEN, stateOf}
 use Rattle.rules.specs.Table.{at}
 use Rattle.rules.specs.WellFormed.{wellFormed}
 
@@ -39,6 +41,24 @@ abbrev pub RoomForEverySplit : Type 0
 RoomForEverySplit =
     (l : Ledger) (n : ℕ) → length (l .nodes) ≡ maxNodes → wellFormed l ≡ true → 1 ≤ n → n ≤ l .used → stateOf (at l n) ≡ STOLEN
     → l .used + 2 ≤ l .room
+
+-- An OWNED node has a sheet left, so a team that seeks does not ask how many: it can steal the last one too.
+abbrev pub OwnedHasSome : Type 0
+OwnedHasSome =
+    (l : Ledger) (n : ℕ) → length (l .nodes) ≡ maxNodes → wellFormed l ≡ true → 1 ≤ n → n ≤ l .used → stateOf (at l n) ≡ OWNED
+    → 1 ≤ leftOver (at l n)
+
+-- The parts of a node with one sheet left: an empty left one, and a right one with the sheet.
+abbrev pub LastSheet : Type 0
+LastSheet =
+    (x : Node) → leftOver x ≡ 1
+    → (leftPart x ≡ fresh (positionOf x) (positionOf x)) × (rightPart x ≡ fresh (positionOf x) (x .until))
+
+-- An empty node is COMPLETED from the start and never owned.
+abbrev pub EmptyNeverOwned : Type 0
+EmptyNeverOwned =
+    (l : Ledger) (n : ℕ) → length (l .nodes) ≡ maxNodes → wellFormed l ≡ true → 1 ≤ n → n ≤ l .used → at l n .start ≡ at l n .until
+    → (stateOf (at l n) ≡ COMPLETED) × (at l n .owner ≡ 0)
 
 -- What the rule of moves says of a request r that makes a ledger l into another.
 pub record Moves (l : Ledger) (r : Request) (next : Ledger) : Type 0 where

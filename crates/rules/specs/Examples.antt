@@ -85,9 +85,9 @@ example-d = example (rooted 7 2 (pos 0) 1) 2 (marks 2 1 0) (ranged 0 2) (node 0 
 abbrev pub example-e : Example
 example-e = example (wide (pos 2147483645)) 2 (marks 2 1 2147483645) (ranged 2147483645 2147483647) (node 0 2147483647 (negsuc 2147483645) 1 0 ∷ [])
 
--- (f) mark at 2,147,483,646 of (c): 13
+-- (f) mark at 2,147,483,646 of (c): −2,147,483,647, since the last sheet too can be stolen
 abbrev pub example-f : Example
-example-f = example (wide (pos 2147483646)) 1 (marks 2 1 2147483646) (refused 13) (node 0 2147483647 (pos 2147483646) 1 0 ∷ [])
+example-f = example (wide (pos 2147483646)) 1 (marks 2 1 2147483646) (ranged 2147483646 2147483647) (node 0 2147483647 (negsuc 2147483646) 1 0 ∷ [])
 
 -- (g) expand, position 3, until 8: left 3..5, right 5..8
 abbrev pub example-g : Example

@@ -1,15 +1,15 @@
--- The table of codes: what each request tests, in its order. Code 1, the ledger is not well formed, comes before all of these (Requests.antt).
+-- The table of codes: what each request tests, in its order; 13 is withdrawn. Code 1, the ledger is not well formed, comes before all of these (Requests.antt).
 use Prim.Native.Nat.{ℕ, _+_, _*_}
 use mathlib.Core.Bool.{Bool, not}
 use mathlib.Core.List.{List, [], _∷_}
-use lib.Dec.{eqb, ltb}
+use lib.Dec.{ltb}
 use Rattle.numbers.specs.Fields.{isNat, within, sameNumber, natOf}
 use Rattle.rules.specs.declared.Node.{Node}
 use Rattle.rules.specs.declared.Request.{Request}
 use Rattle.rules.specs.declared.View.{View}
 use Rattle.rules.specs.Limits.{maxAmount}
 use Rattle.rules.specs.Moves.{byKind}
-use Rattle.rules.specs.Nodes.{marked, unowned, childless, leftOver}
+use Rattle.rules.specs.Nodes.{marked, unowned, childless}
 use Rattle.rules.specs.States.{completed}
 use Rattle.rules.specs.Tests.{Test, _when_, first}
 
@@ -44,7 +44,6 @@ markTests v r =
     ∷ (9 when marked (v .node))
     ∷ (6 when completed (v .node))
     ∷ (10 when not (sameNumber (r .position) (v .node .progress)))
-    ∷ (13 when eqb (leftOver (v .node)) 1)
     ∷ (14 when noRoom v)
     ∷ []
 

@@ -1,7 +1,7 @@
 -- The eight places: what a team asks at each, and where the answer sends it. How a team looks for work, at seek and at mark, is a parameter.
-use Prim.Native.Nat.{ℕ, _+_, _-_, _*_, min}
+use Prim.Native.Nat.{ℕ, _+_, _*_, min}
 use mathlib.Core.Bool.{Bool, cond, _&&_, not}
-use lib.Dec.{eqb, leb}
+use lib.Dec.{eqb}
 use Rattle.rules.specs.declared.Request.{Request}
 use Rattle.rules.specs.declared.Answer.{Answer}
 use Rattle.rules.specs.States.{AVAILABLE, OWNED, STOLEN, EXPANDED}
@@ -27,9 +27,9 @@ sees state a = eqb (a .state) state
 abbrev pub mine : ℕ → Answer → Bool
 mine t a = sees OWNED a && eqb (a .owner) t
 
--- "OWNED by another with two or more left"
+-- OWNED by another: such a node has one sheet left or more
 abbrev pub stealable : ℕ → Answer → Bool
-stealable t a = sees OWNED a && (not (eqb (a .owner) t) && leb 2 (a .to - a .«from»))
+stealable t a = sees OWNED a && not (eqb (a .owner) t)
 
 -- ---- moves that several places share
 
@@ -47,7 +47,7 @@ takeChild r a = take r (childOn (r .side) (a .left))
 
 -- ---- seek and mark, by the scan: program 1
 
--- of a node in use: "AVAILABLE: take(n). OWNED by another with two or more left: mark(n, position). STOLEN: split(n, right). Else seek(n+1)."
+-- of a node in use: "AVAILABLE: take(n). OWNED by another with one or more left: mark(n, position). STOLEN: split(n, right). Else seek(n+1)."
 abbrev pub sightMoves : ℕ → Team → Answer → Team
 sightMoves t r a =
     cond

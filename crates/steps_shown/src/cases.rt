@@ -63,11 +63,12 @@ pub(crate) fn seek() {
     tried(ledgers::expanded(), 2, 4, at(Place::Seek, 1));
 }
 
-// Granted, and refused: the node has an owner.
+// Granted, and refused: the node has an owner, or it is the empty part of a last sheet.
 pub(crate) fn take() {
     show::words(b"take\n");
     tried(ledgers::opened(7), 1, 4, at(Place::Take, 1));
     tried(ledgers::owned(7), 2, 4, at(Place::Take, 1));
+    tried(ledgers::last_split(), 1, 4, at(Place::Take, 2));
 }
 
 // OWNED by this team, STOLEN, EXPANDED, OWNED by another, COMPLETED, AVAILABLE, no node.

@@ -41,7 +41,12 @@ pub(crate) fn stolen() -> Ledger {
     after(claimed(7, 2), 3, 2, 1, 2, 0)
 }
 
-// And it is split in 2..5 and 5..8.
+// Team 2 has marked it at its last sheet, and split it in 7..7 and 7..8.
+pub(crate) fn last_split() -> Ledger {
+    after(after(claimed(7, 7), 3, 2, 1, 7, 0), 4, 2, 1, 0, 0)
+}
+
+// The one marked at 2 is split in 2..5 and 5..8.
 pub(crate) fn expanded() -> Ledger {
     after(stolen(), 4, 2, 1, 0, 0)
 }

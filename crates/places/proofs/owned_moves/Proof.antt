@@ -1,4 +1,4 @@
--- Marked where there is something to steal, and else passed.
+-- Another team's node is marked, and the team's own is passed.
 use Rattle.places.proofs.owned_moves.Statement.{statement}
 use Rattle.places.proofs.owned_moves.Tie as tie
 
