@@ -63,7 +63,7 @@ enum {
 
 enum { AVAILABLE = 1, OWNED = 2, COMPLETED = 3, STOLEN = 4, EXPANDED = 5 };
 
-enum place { SEEK, TAKE, WORK, CLAIM, MARK, SPLIT, JOIN, STOPPED };
+enum place { SEEK, TAKE, WORK, CLAIM, MARK, SPLIT, STOPPED };
 
 enum side { LEFT, RIGHT };
 
@@ -459,12 +459,13 @@ static struct answer expand(int number)
     node = &table[number];
     if (node->progress >= 0)
         return refuse(NOT_NEGATIVE);
-    if (node->left != 0)
-        return refuse(HAS_CHILDREN);
-    if (run.nodes - used < 2)
-        return refuse(NO_SLOTS);
     position = position_of(node);
     middle = position + (node->until - position) / 2;
+    /* The late splitter is told where the children are, as the first one was. */
+    if (node->left != 0)
+        return (struct answer){.code = HAS_CHILDREN, .from = middle, .left = node->left};
+    if (run.nodes - used < 2)
+        return refuse(NO_SLOTS);
     node->left = used + 1;
     table[used + 1] = fresh_node(position, middle);
     table[used + 2] = fresh_node(middle, node->until);
@@ -579,20 +580,10 @@ static void step_split(struct record *record)
         put_split_line(node, answer);
         take_child(record, answer.left);
     } else if (answer.code == HAS_CHILDREN) {
-        record->place = JOIN;
+        take_child(record, answer.left);
     } else {
         go(record, SEEK, 1);
     }
-}
-
-static void step_join(struct record *record)
-{
-    struct answer seen = look(record->node);
-
-    if (seen.state == EXPANDED)
-        take_child(record, seen.left);
-    else
-        go(record, SEEK, 1);
 }
 
 static void step(int team)
@@ -606,7 +597,6 @@ static void step(int team)
     case CLAIM: step_claim(team, record); break;
     case MARK: step_mark(team, record); break;
     case SPLIT: step_split(record); break;
-    case JOIN: step_join(record); break;
     case STOPPED: break;
     }
 }

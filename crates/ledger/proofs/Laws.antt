@@ -16,7 +16,7 @@ use Rattle.rules.specs.declared.View.{View}
 use Rattle.rules.specs.declared.Request.{Request}
 use Rattle.rules.specs.declared.Change.the-variants.{Keep}
 use Rattle.rules.specs.Refusals.{refusal}
-use Rattle.rules.specs.Requests.{refused, outcome, owning, advancing, marking, expanding, looking, granted, decided}
+use Rattle.rules.specs.Requests.{refusing, outcome, owning, advancing, marking, expanding, looking, granted, decided}
 use Rattle.ledger.specs.Pairs.{pairOf}
 use Rattle.rules.specs.declared.Opening.{Opening}
 use Rattle.rules.specs.Limits.{opens}
@@ -135,7 +135,7 @@ pair-small v r = refused-or (eqb (refusal v r) 0)
     of-kind false false false true = unfold expanding in (omega arith)
     of-kind false false false false = unfold looking in (omega arith)
 
-    refused-or : (b : Bool) → pairOf (cond b (granted v r) (outcome (refused (refusal v r)) Keep) .change) ≤ v .pair
+    refused-or : (b : Bool) → pairOf (cond b (granted v r) (outcome (refusing v (refusal v r)) Keep) .change) ≤ v .pair
     refused-or true =
         unfold granted in (of-kind (eqb (natOf (r .kind)) 1) (eqb (natOf (r .kind)) 2) (eqb (natOf (r .kind)) 3) (eqb (natOf (r .kind)) 4))
     refused-or false = omega arith

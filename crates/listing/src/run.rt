@@ -85,7 +85,6 @@ fn stopped_one(t: Team) -> u32
         Place::Claim => 0,
         Place::Mark => 0,
         Place::Split => 0,
-        Place::Join => 0,
     }
 }
 

@@ -2,7 +2,7 @@
 ghost use mathlib.Core.Path.{_≡_};
 ghost use Prim.Native.Nat.{_≤_};
 ghost use Rattle.rules.specs.Limits.{maxUntil};
-ghost use Rattle.rules.specs.Requests.{refused, ranged, split, seen, outcome, owning, batchEnd, advancing, marking, expanding, looking, granted};
+ghost use Rattle.rules.specs.Requests.{refused, refusing, ranged, split, seen, outcome, owning, batchEnd, advancing, marking, expanding, looking, granted};
 use rules::Answer;
 use rules::Change;
 use rules::Node;
@@ -20,6 +20,23 @@ pub fn refused_by(code: u32) -> Answer
         to: 0,
         owner: 0,
         left: 0,
+    }
+}
+
+// Code 16 tells the late splitter where the children are; any other refusal has only its code.
+pub(crate) fn refusing_by(v: View, code: u32) -> Answer
+    ensures { λ a. ⌜ a ≡ refusing v code ⌝ }
+{
+    let x = v.node;
+    let mid = numbers::given_code(code == 16, crate::middle_of(x), 0);
+    let left = numbers::given_code(code == 16, x.left, 0);
+    Answer {
+        code: code,
+        state: 0,
+        from: mid,
+        to: 0,
+        owner: 0,
+        left: left,
     }
 }
 

@@ -154,7 +154,7 @@ pub fn decide(v: View, r: Request) -> Outcome
 {
     let code = codes::refusal_of(v, r);
     if code != 0 {
-        let a = grants::refused_by(code);
+        let a = grants::refusing_by(v, code);
         return grants::unchanged(a);
     }
     grants::granted_by(v, r)

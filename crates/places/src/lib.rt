@@ -1,11 +1,11 @@
-// The eight places: what a team asks at each, and where the answer sends it.
+// The seven places: what a team asks at each, and where the answer sends it.
 ghost use mathlib.Core.Path.{_≡_};
 ghost use mathlib.Core.Bool.{cond};
 ghost use Prim.Native.Nat.{_≤_};
 ghost use lib.Dec.{eqb};
 ghost use Rattle.steps.specs.Records.{maxNode, claim, mark, isStopped};
 ghost use Rattle.steps.specs.Asks.{request};
-ghost use Rattle.steps.specs.Places.{scan, stealable, again, onward, takeChild, grownSize, sightMoves, seekMoves, takeMoves, workMoves, claimMoves, markMoves, splitMoves, joinMoves};
+ghost use Rattle.steps.specs.Places.{scan, stealable, again, onward, takeChild, grownSize, sightMoves, seekMoves, takeMoves, workMoves, claimMoves, markMoves, splitMoves};
 ghost use Rattle.steps.specs.Turn.{asks, moves};
 ghost use Rattle.places.specs.Ready.{Limited, Small};
 
@@ -63,7 +63,6 @@ pub fn has_stopped(p: Place) -> bool
         Place::Claim => false,
         Place::Mark => false,
         Place::Split => false,
-        Place::Join => false,
         Place::Stopped => true,
     }
 }
@@ -81,7 +80,6 @@ pub fn asks_of(number: u32, t: Team) -> Request
         Place::Claim => request_of(ADVANCE, number, n, t.position, t.size),
         Place::Mark => request_of(MARK, number, n, t.position, 0),
         Place::Split => request_of(EXPAND, number, n, 0, 0),
-        Place::Join => request_of(LOOK, number, n, 0, 0),
         Place::Stopped => request_of(0, 0, 0, 0, 0),
     }
 }
@@ -202,25 +200,13 @@ fn child_moves(t: Team, a: Answer) -> Team
     records::take_at(t, records::child_on(side, a.left))
 }
 
+// A team that comes second to a split is told where the children are, as the first is.
 fn split_moves(t: Team, a: Answer) -> Team
     ensures { λ r. ⌜ (a .left ≤ maxNode → r ≡ splitMoves t a) ⌝ }
 {
-    let n = t.node;
-    let side = t.side;
     let code = a.code;
     match code {
-        0 => child_moves(t, a),
-        16 => records::join_at(t, n, side),
-        _ => records::seek_at(t, 1),
-    }
-}
-
-fn join_moves(t: Team, a: Answer) -> Team
-    ensures { λ r. ⌜ (a .left ≤ maxNode → r ≡ joinMoves t a) ⌝ }
-{
-    let state = a.state;
-    match state {
-        EXPANDED => child_moves(t, a),
+        0 | 16 => child_moves(t, a),
         _ => records::seek_at(t, 1),
     }
 }
@@ -237,7 +223,6 @@ pub fn moves_of(number: u32, cap: u32, t: Team, a: Answer) -> Team
         Place::Claim => claim_moves(cap, t, a),
         Place::Mark => mark_moves(t, a),
         Place::Split => split_moves(t, a),
-        Place::Join => join_moves(t, a),
         Place::Stopped => t,
     }
 }

@@ -1,7 +1,7 @@
 // The moves of a team's record: each sets the fields that it names and keeps the others.
 ghost use mathlib.Core.Path.{_≡_};
 ghost use Prim.Native.Nat.{_+_, _≤_};
-ghost use Rattle.steps.specs.Records.{maxNode, placed, aimed, sided, sized, seek, take, work, claim, mark, split, join, stop, childOn};
+ghost use Rattle.steps.specs.Records.{maxNode, placed, aimed, sided, sized, seek, take, work, claim, mark, split, stop, childOn};
 use steps::Place;
 use steps::Side;
 use steps::Team;
@@ -82,12 +82,6 @@ pub(crate) fn split_at(t: Team, n: u32, d: Side) -> Team
     ensures { λ r. ⌜ r ≡ split t n d ⌝ }
 {
     turn_to(place_at(t, Place::Split, n), d)
-}
-
-pub(crate) fn join_at(t: Team, n: u32, d: Side) -> Team
-    ensures { λ r. ⌜ r ≡ join t n d ⌝ }
-{
-    turn_to(place_at(t, Place::Join, n), d)
 }
 
 pub(crate) fn stop_there(t: Team) -> Team

@@ -9,17 +9,18 @@ use Rattle.numbers.proofs.Laws.{isNat-made}
 use Rattle.rules.specs.declared.Ledger.{Ledger}
 use Rattle.rules.specs.declared.Opened.{Opened}
 use Rattle.rules.specs.declared.Request.{Request}
-use Rattle.rules.specs.Demands.{OpeningWellFormed, RequestsKeepWellFormed, RefusalsChangeNothing, RoomForEverySplit, OwnedHasSome, LastSheet, EmptyNeverOwned, Moves, RequestsFollowMoves}
+use Rattle.rules.specs.declared.Answered.{Answered}
+use Rattle.rules.specs.Demands.{OpeningWellFormed, RequestsKeepWellFormed, RefusalsChangeNothing, Told, LateSplitterTold, RoomForEverySplit, OwnedHasSome, LastSheet, EmptyNeverOwned, Moves, RequestsFollowMoves}
 use Rattle.rules.specs.Limits.{opens}
 use Rattle.rules.specs.Moves.{leads}
 use Rattle.rules.specs.Nodes.{fresh, positionOf, middle, leftPart, rightPart}
 use Rattle.rules.specs.Opening.{opening, ledgerOf, closed}
-use Rattle.rules.specs.Requests.{nodeIn, answered, requested}
+use Rattle.rules.specs.Requests.{view, nodeIn, answered, requested}
 use Rattle.rules.specs.States.{stateOf}
 use Rattle.rules.specs.Table.{at}
 use Rattle.rules.specs.WellFormed.{wellFormed}
 use Rattle.rules.proofs.Expand.{room-left}
-use Rattle.rules.proofs.Granted.{not-yet, answers}
+use Rattle.rules.proofs.Granted.{not-yet, Answers, refuses, owns, advances, marks, expands, looks, late-facts, answers}
 use Rattle.rules.proofs.Keeps.{wf-answered, requested-wf, refused-keeps}
 use Rattle.rules.proofs.Moves.{moves, others, none}
 use Rattle.rules.proofs.Opens.{opened-wf}
@@ -44,6 +45,22 @@ requests-keep-well-formed l r slots e =
 
 pub refusals-change-nothing : RefusalsChangeNothing
 refusals-change-nothing = refused-keeps
+
+-- no grant has the code 16, and the children of a parent are where the ledger has them
+told : {l : Ledger} {r : Request} {a : Answered} → WF l → Answers l r a → a .answer .code ≡ 16 → Told l (nodeIn r) (a .answer)
+unfolding view
+told {l} {r} w (refuses ne) e =
+    let late = late-facts (view l (nodeIn r)) r e in
+    let p = w .pair (nodeIn r) (late .asked .node .low) (late .asked .node .high) (late .parent) in
+    rw e (record { left = refl; left-until = p .left-until; right-start = p .right-start })
+told w (owns k q f) e = absurd (omega arith)
+told w (advances k q f) e = absurd (omega arith)
+told w (marks k q f) e = absurd (omega arith)
+told w (expands k q f) e = absurd (omega arith)
+told w (looks k q) e = absurd (omega arith)
+
+pub late-splitter-told : LateSplitterTold
+late-splitter-told l r slots e = let w = rules l slots e in rw (requested-wf l r w) (told w (answers l r))
 
 pub room-for-every-split : RoomForEverySplit
 room-for-every-split l n slots e low high s = room-left l (rules l slots e) n low high (is-stolen (at l n) s)

@@ -1,10 +1,12 @@
 -- What is so when a request is granted, kind by kind, with what it then answers and does.
 use mathlib.Core.Path.{_≡_, refl, sym, ap, _∙_}
 use mathlib.Core.Logic.{_≢_}
-use mathlib.Core.Bool.{true, false, not, true≢false}
-use Prim.Native.Nat.{ℕ, _+_, _*_, _≤_, min}
+use mathlib.Core.Bool.{Bool, true, false, not, true≢false}
+use mathlib.Core.List.{[], _∷_}
+use Prim.Native.Nat.{ℕ, _+_, _*_, _≤_, _<_, min}
 use native.Mathlib.Omega.{arith}
 use native.Mathlib.Decide.{ℕ-discrete}
+use lib.Dec.{T}
 use lib.IntN.{ℤ, pos, negsuc}
 use borrow.Author.Tests.{eqb-true, eqb-false, ne-eqb, not-false}
 use Rattle.numbers.specs.Progress.{negative, position, mark as markOf}
@@ -20,10 +22,11 @@ use Rattle.rules.specs.Limits.{maxAmount}
 use Rattle.rules.specs.Nodes.{owned, moved, parted, marked, unowned, childless, positionOf, middle, leftPart, rightPart}
 use Rattle.rules.specs.States.{completed}
 use Rattle.rules.specs.Table.{at, put, grown, stolenIn}
-use Rattle.rules.specs.Refusals.{allTests, ownTests, advanceTests, markTests, expandTests, ownCode, advanceCode, markCode, expandCode, kindCode, refusal}
-use Rattle.rules.specs.Requests.{refused, ranged, split, seen, outcome, owning, batchEnd, advancing, marking, expanding, looking, granted, decided, view, changed, nodeIn, answered}
+use Rattle.rules.specs.Refusals.{noPair, allTests, ownTests, advanceTests, markTests, expandTests, ownCode, advanceCode, markCode, expandCode, kindCode, refusal}
+use Rattle.rules.specs.Requests.{refusing, ranged, split, seen, outcome, owning, batchEnd, advancing, marking, expanding, looking, granted, decided, view, changed, nodeIn, answered}
+use Rattle.rules.specs.Tests.{_when_}
 use Rattle.rules.proofs.Facts.{ltb-f}
-use Rattle.rules.proofs.Tests.{passed, Kind, own, advance, mark, expand, look, kind-of}
+use Rattle.rules.proofs.Tests.{lacks, passed-to, passed, Kind, own, advance, mark, expand, look, kind-of}
 
 -- ---- the facts of each kind
 
@@ -71,7 +74,7 @@ after l n x a b = grown (put (put (put l n x) (l .used + 1) a) (l .used + 1 + 1)
 
 pub data Answers (l : Ledger) (r : Request) : Answered → Type 0 where
   refuses : refusal (view l (nodeIn r)) r ≢ 0
-      → Answers l r (record { ledger = l; answer = refused (refusal (view l (nodeIn r)) r) })
+      → Answers l r (record { ledger = l; answer = refusing (view l (nodeIn r)) (refusal (view l (nodeIn r)) r) })
   owns : natOf (r .kind) ≡ 1 → Asked (l .teams) (l .used) r → Owning (at l (nodeIn r))
       → Answers l r (record {
         ledger = put l (nodeIn r) (owned (at l (nodeIn r)) (natOf (r .team)));
@@ -163,10 +166,11 @@ expand-facts v e =
       fits = omega (arith, simp ltb-f at (t .1 .1 .0));
     }
 
-pub asked-facts : (v : View) (r : Request) → refusal v r ≡ 0 → Asked (v .teams) (v .used) r × (kindCode v r ≡ 0)
+-- a code that is not of the tests of all is of the kind's own
+asked-to : (k : ℕ) (v : View) (r : Request) → T (lacks k (allTests v r)) → refusal v r ≡ k → Asked (v .teams) (v .used) r × (kindCode v r ≡ k)
 unfolding refusal
-asked-facts v r e =
-    let p = passed (allTests v r) (kindCode v r) tt e in
+asked-to k v r other e =
+    let p = passed-to k (allTests v r) (kindCode v r) other e in
     let t = p .0 in (
       record {
         kind = within-true (r .kind) 1 5 (not-false (within (r .kind) 1 5) (t .0));
@@ -175,6 +179,40 @@ asked-facts v r e =
       },
       p .1,
     )
+
+pub asked-facts : (v : View) (r : Request) → refusal v r ≡ 0 → Asked (v .teams) (v .used) r × (kindCode v r ≡ 0)
+asked-facts v r e = asked-to 0 v r tt e
+
+-- ---- refused by 16
+
+-- 16 is given to no request but an expand, and of no node but one that has children
+module _ (v : View) (r : Request) where
+  late-expand : expandCode v ≡ 16 → 0 < v .node .left
+  unfolding expandCode
+  late-expand h = go (childless (v .node)) refl
+    where
+      go : (b : Bool) → childless (v .node) ≡ b → 0 < v .node .left
+      go true e =
+          let none = passed-to 16 ((15 when not (marked (v .node))) ∷ (17 when noPair v) ∷ []) 0 tt (rw e at h) .1 in
+          absurd (omega arith)
+      go false e = let some = eqb-false (v .node .left) 0 e in omega arith
+
+  late-kind : kindCode v r ≡ 16 → Kind (natOf (r .kind)) → 0 < v .node .left
+  unfolding kindCode ownCode advanceCode markCode
+  late-kind h (own e) = let none = passed-to 16 (ownTests (v .node)) 0 tt (rw e at h) .1 in absurd (omega arith)
+  late-kind h (advance e) = let none = passed-to 16 (advanceTests (v .node) r) 0 tt (rw e at h) .1 in absurd (omega arith)
+  late-kind h (mark e) = let none = passed-to 16 (markTests v r) 0 tt (rw e at h) .1 in absurd (omega arith)
+  late-kind h (expand e) = late-expand (rw e at h)
+  late-kind h (look e) = let none = rw e at h in absurd (omega arith)
+
+  pub record Late : Type 0 where
+    pub asked : Asked (v .teams) (v .used) r
+    pub parent : 0 < v .node .left
+
+  pub late-facts : refusal v r ≡ 16 → Late
+  late-facts e =
+      let a = asked-to 16 v r tt e in
+      record { asked = a .0; parent = late-kind (a .1) (kind-of (natOf (r .kind)) (a .0 .kind .low) (a .0 .kind .high)) }
 
 -- ---- granted or refused
 
@@ -249,7 +287,7 @@ pub decided-granted : (v : View) (r : Request) → refusal v r ≡ 0 → decided
 unfolding decided
 decided-granted v r e = rw e
 
-pub decided-refused : (v : View) (r : Request) → refusal v r ≢ 0 → decided v r ≡ outcome (refused (refusal v r)) Keep
+pub decided-refused : (v : View) (r : Request) → refusal v r ≢ 0 → decided v r ≡ outcome (refusing v (refusal v r)) Keep
 unfolding decided
 decided-refused v r ne = rw (ne-eqb (refusal v r) 0 ne)
 

@@ -15,7 +15,7 @@ use Rattle.rules.specs.declared.Answered.{Answered}
 use Rattle.rules.specs.Nodes.{owned, moved, marked, positionOf}
 use Rattle.rules.specs.Table.{at, put, stolenIn}
 use Rattle.rules.specs.WellFormed.{wellFormed}
-use Rattle.rules.specs.Requests.{refused, batchEnd, nodeIn, answered, requested}
+use Rattle.rules.specs.Requests.{refused, refusing, batchEnd, nodeIn, view, answered, requested}
 use Rattle.rules.proofs.Record.{WF, Alone, rules-back}
 use Rattle.rules.proofs.States.{owned-same, unmarked-none, at-most-one}
 use Rattle.rules.proofs.Granted.{Asked, Owning, Advancing, Marking, Answers, refuses, owns, advances, marks, expands, looks, answers}
@@ -132,7 +132,7 @@ unfolding requested
 requested-wf l r w = rw (rules-back l w)
 
 answers-keep : {l : Ledger} {r : Request} {a : Answered} → Answers l r a → a .answer .code ≢ 0
-    → a ≡ record { ledger = l; answer = refused (a .answer .code) }
+    → a ≡ record { ledger = l; answer = refusing (view l (nodeIn r)) (a .answer .code) }
 answers-keep (refuses h) ne = refl
 answers-keep (owns k q f) ne = absurd (ne refl)
 answers-keep (advances k q f) ne = absurd (ne refl)
@@ -141,13 +141,13 @@ answers-keep (expands k q f) ne = absurd (ne refl)
 answers-keep (looks k q) ne = absurd (ne refl)
 
 pub refused-keeps : (l : Ledger) (r : Request) → requested l r .answer .code ≢ 0
-    → requested l r ≡ record { ledger = l; answer = refused (requested l r .answer .code) }
+    → requested l r ≡ record { ledger = l; answer = refusing (view l (nodeIn r)) (requested l r .answer .code) }
 unfolding requested
 refused-keeps l r = go (wellFormed l)
   where
     given : Bool → Answered
     given b = cond b (answered l r) (record { ledger = l; answer = refused 1 })
 
-    go : (b : Bool) → given b .answer .code ≢ 0 → given b ≡ record { ledger = l; answer = refused (given b .answer .code) }
+    go : (b : Bool) → given b .answer .code ≢ 0 → given b ≡ record { ledger = l; answer = refusing (view l (nodeIn r)) (given b .answer .code) }
     go true ne = answers-keep (answers l r) ne
     go false ne = refl

@@ -1,10 +1,12 @@
--- A list of tests that gives 0: no test of it holds. And the five kinds.
+-- A list of tests that gives a code which none of them has: no test of it holds. And the five kinds.
 use mathlib.Core.Path.{_≡_, refl}
-use mathlib.Core.Bool.{Bool, true, false, cond, _&&_}
+use mathlib.Core.Logic.{_≢_}
+use mathlib.Core.Bool.{Bool, true, false, cond, not, _&&_}
 use mathlib.Core.List.{List, [], _∷_}
-use Prim.Native.Nat.{ℕ, zero, suc, _≤_, _<_}
+use Prim.Native.Nat.{ℕ, zero, suc, _≤_}
 use native.Mathlib.Omega.{arith}
-use lib.Dec.{T, ltb, ltb→lt}
+use lib.Dec.{T, eqb}
+use borrow.Author.Tests.{eq-eqb}
 use Rattle.rules.specs.Tests.{Test, first}
 
 -- no test of the list holds
@@ -12,10 +14,10 @@ abbrev pub Passed : List Test → Type 0
 Passed [] = Unit {0}
 Passed (t ∷ ts) = (t .holds ≡ false) × Passed ts
 
--- no code of the list is 0
-abbrev pub proper : List Test → Bool
-proper [] = true
-proper (t ∷ ts) = ltb 0 (t .code) && proper ts
+-- no test of the list has the code k
+abbrev pub lacks : ℕ → List Test → Bool
+lacks k [] = true
+lacks k (t ∷ ts) = not (eqb (t .code) k) && lacks k ts
 
 both-left : (a b : Bool) → T (a && b) → T a
 both-left true b t = tt
@@ -25,16 +27,22 @@ both-right : (a b : Bool) → T (a && b) → T b
 both-right true b t = t
 both-right false b t = absurd t
 
-one : (b : Bool) (c n : ℕ) → 0 < c → cond b c n ≡ 0 → (b ≡ false) × (n ≡ 0)
-one true c n h e = absurd (omega arith)
-one false c n h e = (refl, e)
+apart : (c k : ℕ) → T (not (eqb c k)) → c ≢ k
+apart c k t e = rw (eq-eqb c k e) at t
 
-pub passed : (ts : List Test) (after : ℕ) → T (proper ts) → first ts after ≡ 0 → Passed ts × (after ≡ 0)
-passed [] after p e = (tt, e)
-passed (t ∷ ts) after p e =
-    let o = one (t .holds) (t .code) (first ts after) (ltb→lt _ _ (both-left (ltb 0 (t .code)) (proper ts) p)) e in
-    let r = passed ts after (both-right (ltb 0 (t .code)) (proper ts) p) (o .1) in
+one : (b : Bool) (c k n : ℕ) → c ≢ k → cond b c n ≡ k → (b ≡ false) × (n ≡ k)
+one true c k n h e = absurd (h e)
+one false c k n h e = (refl, e)
+
+pub passed-to : (k : ℕ) (ts : List Test) (after : ℕ) → T (lacks k ts) → first ts after ≡ k → Passed ts × (after ≡ k)
+passed-to k [] after p e = (tt, e)
+passed-to k (t ∷ ts) after p e =
+    let o = one (t .holds) (t .code) k (first ts after) (apart (t .code) k (both-left (not (eqb (t .code) k)) (lacks k ts) p)) e in
+    let r = passed-to k ts after (both-right (not (eqb (t .code) k)) (lacks k ts) p) (o .1) in
     ((o .0, r .0), r .1)
+
+pub passed : (ts : List Test) (after : ℕ) → T (lacks 0 ts) → first ts after ≡ 0 → Passed ts × (after ≡ 0)
+passed = passed-to 0
 
 pub passes : (ts : List Test) (after : ℕ) → Passed ts → first ts after ≡ after
 passes [] after p = refl

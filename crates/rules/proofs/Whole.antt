@@ -16,7 +16,7 @@ use Rattle.rules.specs.declared.Answered.{Answered}
 use Rattle.rules.specs.Listing.{sheets, unclaimedOf, afterAll, Batch, batchIn, batchOf, batches, grantedFrom, Lists, ends, parts, ListsOnly}
 use Rattle.rules.specs.Nodes.{owned, moved, parted, positionOf, middle, leftPart, rightPart}
 use Rattle.rules.specs.Refusals.{refusal}
-use Rattle.rules.specs.Requests.{refused, ranged, batchEnd, view, nodeIn, requested}
+use Rattle.rules.specs.Requests.{refusing, ranged, batchEnd, view, nodeIn, requested}
 use Rattle.rules.specs.Table.{at, put, grown}
 use Rattle.rules.proofs.Batches.{sheets-join, sheets-none, no-batch, one-batch, granted-here, granted-other}
 use Rattle.rules.proofs.Granted.{Asked, Advancing, after as splitAt, Answers, refuses, owns, advances, marks, expands, looks, answers}
@@ -220,7 +220,7 @@ module _ (l : Ledger) (bs : List Batch) (r : Request) (h : Whole l bs) (asked : 
 -- the facts of a change, with what the answer grants
 answers-whole : {l : Ledger} {bs : List Batch} {r : Request} {a : Answered} → Whole l bs → WF (a .ledger) → Answers l r a
     → Whole (a .ledger) (batchOf r (a .answer) ++ bs)
-answers-whole {l} {bs} {r} h good (refuses ne) = rw (no-batch r (refused (refusal (view l (nodeIn r)) r)) (λ e. ne)) h
+answers-whole {l} {bs} {r} h good (refuses ne) = rw (no-batch r (refusing (view l (nodeIn r)) (refusal (view l (nodeIn r)) r)) (λ e. ne)) h
 answers-whole {l} {bs} {r} h good (owns k q f) =
     rw
     (no-batch r _ (λ e. absurd (omega arith)))

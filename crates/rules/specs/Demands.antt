@@ -7,6 +7,7 @@ use mathlib.Core.List.{[]}
 use Prim.Native.Nat.{ℕ, _+_, _≤_}
 use lib.ListN.{length}
 use Rattle.numbers.specs.Fields.{natOf}
+use Rattle.rules.specs.declared.Answer.{Answer}
 use Rattle.rules.specs.declared.Ledger.{Ledger}
 use Rattle.rules.specs.declared.Node.{Node}
 use Rattle.rules.specs.declared.Opening.{Opening}
@@ -16,7 +17,7 @@ use Rattle.rules.specs.Limits.{maxNodes}
 use Rattle.rules.specs.Moves.{leads, isIn}
 use Rattle.rules.specs.Nodes.{fresh, positionOf, leftOver, leftPart, rightPart}
 use Rattle.rules.specs.Opening.{opening}
-use Rattle.rules.specs.Requests.{nodeIn, refused, requested}
+use Rattle.rules.specs.Requests.{nodeIn, refusing, view, requested}
 use Rattle.rules.specs.States.{OWNED, COMPLETED, STOLEN, stateOf}
 use Rattle.rules.specs.Table.{at}
 use Rattle.rules.specs.WellFormed.{wellFormed}
@@ -30,11 +31,23 @@ abbrev pub RequestsKeepWellFormed : Type 0
 RequestsKeepWellFormed =
     (l : Ledger) (r : Request) → length (l .nodes) ≡ maxNodes → wellFormed l ≡ true → wellFormed (requested l r .ledger) ≡ true
 
--- "A refusal has only its code and changes nothing."
+-- A refusal changes nothing, and has only its code, but for 16, which has left and from too.
 abbrev pub RefusalsChangeNothing : Type 0
 RefusalsChangeNothing =
     (l : Ledger) (r : Request) → requested l r .answer .code ≢ 0
-    → requested l r ≡ record { ledger = l; answer = refused (requested l r .answer .code) }
+    → requested l r ≡ record { ledger = l; answer = refusing (view l (nodeIn r)) (requested l r .answer .code) }
+
+-- Where the children of node n are, as an answer a has it: their number, and the sheet at which they meet.
+pub record Told (l : Ledger) (n : ℕ) (a : Answer) : Type 0 where
+  pub left : a .left ≡ at l n .left
+  pub left-until : at l (a .left) .until ≡ a .from
+  pub right-start : at l (a .left + 1) .start ≡ a .from
+
+-- A team second to a split is told by 16 where the children are.
+abbrev pub LateSplitterTold : Type 0
+LateSplitterTold =
+    (l : Ledger) (r : Request) → length (l .nodes) ≡ maxNodes → wellFormed l ≡ true → requested l r .answer .code ≡ 16
+    → Told l (nodeIn r) (requested l r .answer)
 
 -- A STOLEN node of a well-formed ledger has a pair of slots to take, so a split that was begun can always be made.
 abbrev pub RoomForEverySplit : Type 0

@@ -27,6 +27,19 @@ use Rattle.rules.specs.WellFormed.{wellFormed}
 abbrev pub refused : ℕ → Answer
 refused code = record { code = code; state = 0; «from» = 0; to = 0; owner = 0; left = 0 }
 
+-- the refusal of a request that has this view. Code 16 tells the late splitter where the children are, as a granted expand does; it is the
+-- one code with other fields set.
+abbrev pub refusing : View → ℕ → Answer
+refusing v code =
+    record {
+      code = code;
+      state = 0;
+      «from» = cond (eqb code 16) (middle (v .node)) 0;
+      to = 0;
+      owner = 0;
+      left = cond (eqb code 16) (v .node .left) 0;
+    }
+
 abbrev pub ranged : ℕ → ℕ → Answer
 ranged a b = record { code = 0; state = 0; «from» = a; to = b; owner = 0; left = 0 }
 
@@ -79,7 +92,7 @@ granted v r = byKind (natOf (r .kind)) (owning v r) (advancing v r) (marking v r
 
 -- granted where no test holds, and else refused with the first's code, changing nothing
 unfoldable pub decided : View → Request → Outcome
-decided v r = cond (eqb (refusal v r) 0) (granted v r) (outcome (refused (refusal v r)) Keep)
+decided v r = cond (eqb (refusal v r) 0) (granted v r) (outcome (refusing v (refusal v r)) Keep)
 
 -- ---- on a ledger
 

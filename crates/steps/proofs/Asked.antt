@@ -19,9 +19,9 @@ use Rattle.rules.specs.Nodes.{owned, moved, parted, marked, positionOf, middle,
 use Rattle.rules.specs.States.{AVAILABLE, STOLEN, EXPANDED, completed, stateOf}
 use Rattle.rules.specs.Table.{at, put, stolenIn}
 use Rattle.rules.specs.Refusals.{ownCode, advanceCode, expandCode, kindCode, refusal}
-use Rattle.rules.specs.Requests.{refused, ranged, split, seen, batchEnd, view, nodeIn, requested}
+use Rattle.rules.specs.Requests.{refused, refusing, ranged, split, seen, batchEnd, view, nodeIn, requested}
 use Rattle.rules.proofs.Expand.{room-left}
-use Rattle.rules.proofs.Granted.{Advancing, Marking, after, Answers, refuses, owns, advances, marks, expands, looks, answers}
+use Rattle.rules.proofs.Granted.{Advancing, Marking, after, Answers, refuses, owns, advances, marks, expands, looks, late-facts, answers}
 use Rattle.rules.proofs.Keeps.{requested-wf}
 use Rattle.rules.proofs.Record.{WF}
 use Rattle.rules.proofs.States.{Available, Stolen, is-available, is-stolen, is-expanded}
@@ -31,6 +31,11 @@ use Rattle.steps.specs.Asks.{own, advance, mark, expand, look}
 pub record InUse (l : Ledger) (n : ℕ) : Type 0 where
   pub low : 1 ≤ n
   pub high : n ≤ l .used
+
+-- and it has children
+pub record Parent (l : Ledger) (n : ℕ) : Type 0 where
+  pub here : InUse l n
+  pub some : 0 < at l n .left
 
 -- ---- any request of a team
 
@@ -70,7 +75,7 @@ module _ (l : Ledger) (w : WF l) (t n : ℕ) (tl : 1 ≤ t) (th : t ≤ l .teams
 
   pub by-own : (P : Answered → Type 0)
       → (Takes → P (record { ledger = put l n (owned (at l n) t); answer = ranged (at l n .start) (at l n .until) }))
-      → ((c : ℕ) → c ≢ 0 → (InUse l n → stateOf (at l n) ≢ AVAILABLE) → P (record { ledger = l; answer = refused c }))
+      → ((c : ℕ) → c ≢ 0 → (InUse l n → stateOf (at l n) ≢ AVAILABLE) → P (record { ledger = l; answer = refusing (view l n) c }))
       → P (requested l (own t n))
   unfolding kindCode ownCode view
   by-own P took lost = rw (requested-wf l q w) (go (answers l q))
@@ -111,7 +116,7 @@ module _ (l : Ledger) (w : WF l) (t n : ℕ) (tl : 1 ≤ t) (th : t ≤ l .teams
         ledger = put l n (moved (at l n) (pos (batchEnd (at l n) (advance t n p k))));
         answer = ranged (positionOf (at l n)) (batchEnd (at l n) (advance t n p k));
       }))
-      → ((c : ℕ) → c ≢ 0 → (c ≡ 9 → InUse l n → marked (at l n) ≡ true) → P (record { ledger = l; answer = refused c }))
+      → ((c : ℕ) → c ≢ 0 → (c ≡ 9 → InUse l n → marked (at l n) ≡ true) → P (record { ledger = l; answer = refusing (view l n) c }))
       → P (requested l (advance t n p k))
   unfolding kindCode advanceCode view
   by-advance p amount P took lost = rw (requested-wf l q w) (go (answers l q))
@@ -148,7 +153,7 @@ module _ (l : Ledger) (w : WF l) (t n : ℕ) (tl : 1 ≤ t) (th : t ≤ l .teams
         ledger = put l n (moved (at l n) (negsuc (positionOf (at l n))));
         answer = ranged (positionOf (at l n)) (at l n .until);
       }))
-      → ((c : ℕ) → c ≢ 0 → (c ≡ 14 → n ≤ l .used) → P (record { ledger = l; answer = refused c }))
+      → ((c : ℕ) → c ≢ 0 → (c ≡ 14 → n ≤ l .used) → P (record { ledger = l; answer = refusing (view l n) c }))
       → P (requested l (mark t n p))
   by-mark p P took lost = rw (requested-wf l q w) (go (answers l q))
     where
@@ -176,17 +181,20 @@ module _ (l : Ledger) (w : WF l) (t n : ℕ) (tl : 1 ≤ t) (th : t ≤ l .teams
     pub was : Stolen (at l n)
     pub fits : l .used + 2 ≤ length (l .nodes)
 
+  -- it is refused without the children, or late: code 16 tells where they are
+  pub record Unsplit (c : ℕ) : Type 0 where
+    pub some : c ≢ 0
+    pub whole : InUse l n → stateOf (at l n) ≢ STOLEN
+    pub late : InUse l n → stateOf (at l n) ≡ EXPANDED → c ≡ 16
+    pub told : c ≡ 16 → Parent l n
+
   pub by-expand : (P : Answered → Type 0)
       → (Splits
       → P (record {
         ledger = after l n (parted (at l n) (l .used + 1)) (leftPart (at l n)) (rightPart (at l n));
         answer = split (l .used + 1) (middle (at l n));
       }))
-      → ((c : ℕ)
-      → c ≢ 0
-      → (InUse l n → stateOf (at l n) ≢ STOLEN)
-      → (InUse l n → stateOf (at l n) ≡ EXPANDED → c ≡ 16)
-      → P (record { ledger = l; answer = refused c }))
+      → ((c : ℕ) → Unsplit c → P (record { ledger = l; answer = refusing (view l n) c }))
       → P (requested l (expand t n))
   unfolding kindCode expandCode view
   by-expand P took lost = rw (requested-wf l q w) (go (answers l q))
@@ -206,8 +214,14 @@ module _ (l : Ledger) (w : WF l) (t n : ℕ) (tl : 1 ≤ t) (th : t ≤ l .teams
           let some = s .parent in
           by-kind l q refl teamed (used u) ∙ rw (s .mark, ne-eqb (at l n .left) 0 (omega arith))
 
+      sixteen : refusal (view l n) q ≡ 16 → Parent l n
+      sixteen f =
+          let late = late-facts (view l n) q f in
+          record { here = record { low = late .asked .node .low; high = late .asked .node .high }; some = late .parent }
+
       go : {u : Answered} → Answers l q u → P u
-      go (refuses e) = lost _ e (λ u f. e (stolen u f)) expanded
+      go (refuses e) =
+          lost _ (record { some = e; whole = λ u f. e (stolen u f); late = expanded; told = sixteen })
       go (owns k a f) = absurd (omega arith)
       go (advances k a f) = absurd (omega arith)
       go (marks k a f) = absurd (omega arith)

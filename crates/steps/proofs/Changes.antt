@@ -19,7 +19,7 @@ use Rattle.rules.proofs.Split.{split-here, split-left, split-right, split-other
 use Rattle.rules.proofs.States.{never, Stolen, is-expanded, stolen-is, expanded-is}
 use Rattle.steps.specs.declared.Side.{Side}
 use Rattle.steps.specs.declared.Side.the-variants.{Left, Right}
-use Rattle.steps.proofs.Stages.{Stage, busy, parting, taking, child, Heads, works, parts, joins, takes, Open, unmade, untaken, Tended, All, Moved, Duty, tended-kept}
+use Rattle.steps.proofs.Stages.{Stage, busy, parting, taking, child, Heads, works, parts, takes, Open, unmade, untaken, Tended, All, Moved, Duty, tended-kept}
 
 -- no slot becomes AVAILABLE
 abbrev pub Older : Ledger → Ledger → Type 0
@@ -123,14 +123,12 @@ module _ (l : Ledger) (w : WF l) (n : ℕ) (low : 1 ≤ n) (high : n ≤ l .used
   stays : (e : Side) (s : Stage) → Heads n x e s → Heads n y e s
   stays e s (works a b) = works a b
   stays e s (parts a) = parts a
-  stays e s (joins h a) = absurd (omega (arith, was .leaf))
   stays e s (takes h a) = absurd (omega (arith, was .leaf))
 
   -- and the team that made the split takes the child on its side
   goes : (d e : Side) → Heads n x e (parting n d) → Heads n y e (taking (child y d))
   goes d e (works a b) = never (cc)
   goes d e (parts a) = takes (omega arith) (let k : e ≡ d = cc in rw k)
-  goes d e (joins h a) = absurd (omega (arith, was .leaf))
   goes d e (takes h a) = absurd (omega (arith, was .leaf))
 
   module _ (S S′ : ℕ → Stage) (t : ℕ) (d : Side) (start : S t ≡ parting n d) (move : Moved S S′ t (taking (child y d))) (all : All l S)

@@ -15,9 +15,9 @@ use Rattle.rules.specs.declared.Request.{Request}
 use Rattle.rules.specs.declared.Answer.{Answer}
 use Rattle.rules.specs.declared.Answered.{Answered}
 use Rattle.rules.specs.Nodes.{owned, moved, parted, marked, positionOf, leftPart, rightPart}
-use Rattle.rules.specs.States.{AVAILABLE, OWNED, STOLEN, EXPANDED, stateOf}
+use Rattle.rules.specs.States.{AVAILABLE, OWNED, STOLEN, stateOf}
 use Rattle.rules.specs.Table.{at, put}
-use Rattle.rules.specs.Requests.{refused, ranged, batchEnd, requested}
+use Rattle.rules.specs.Requests.{refusing, ranged, batchEnd, view, requested}
 use Rattle.rules.proofs.Granted.{after}
 use Rattle.rules.proofs.Nodes.{at-same}
 use Rattle.rules.proofs.Record.{WF}
@@ -27,10 +27,10 @@ use Rattle.steps.specs.declared.Side.the-variants.{Left, Right}
 use Rattle.steps.specs.declared.Team.{Team}
 use Rattle.steps.specs.Asks.{own, advance, mark, expand, look}
 use Rattle.steps.specs.Records.{sized, split, work, childOn}
-use Rattle.steps.specs.Places.{Line, again, grownSize, takeMoves, workMoves, claimMoves, splitMoves, joinMoves}
-use Rattle.steps.proofs.Stages.{Stage, hunt, taking, busy, parting, joining, stageOf, child, Heads, works, parts, joins, takes, Open, unmade, untaken, All, Moved, Duty, duty-same, duty-hunt, duty-taking, duty-busy, duty-parting, duty-joining}
+use Rattle.steps.specs.Places.{Line, again, grownSize, takeMoves, workMoves, claimMoves, splitMoves}
+use Rattle.steps.proofs.Stages.{Stage, hunt, taking, busy, parting, stageOf, child, Heads, works, parts, takes, Open, unmade, untaken, All, Moved, Duty, duty-same, duty-hunt, duty-taking, duty-busy, duty-parting}
 use Rattle.steps.proofs.Changes.{Older, all-keep, all-put, older-put, tended-shut, all-split, older-split}
-use Rattle.steps.proofs.Asked.{InUse, Takes, Claims, Marks, Splits, by-own, by-advance, by-mark, by-expand, by-look}
+use Rattle.steps.proofs.Asked.{InUse, Takes, Claims, Marks, Splits, Unsplit, by-own, by-advance, by-mark, by-expand, by-look}
 
 -- from the ledger l and a team t at the stage s to l′ and s′: every node stays looked after, whatever the other teams do
 pub record Fair (l : Ledger) (t : ℕ) (s : Stage) (l′ : Ledger) (s′ : Stage) : Type 0 where
@@ -208,7 +208,7 @@ module _ (l : Ledger) (w : WF l) (t : ℕ) (tl : 1 ≤ t) (th : t ≤ l .teams) 
   -- ---- split
 
   pub fair-split : (r : Team) → Asks l t (parting (r .node) (r .side)) (expand t (r .node)) (splitMoves r)
-  unfolding splitMoves
+  unfolding splitMoves view
   fair-split r = by-expand l w t n tl th (Then l t (parting n (r .side)) (splitMoves r)) took lost
     where
       n : ℕ
@@ -224,31 +224,15 @@ module _ (l : Ledger) (w : WF l) (t : ℕ) (tl : 1 ≤ t) (th : t ≤ l .teams) 
                 λ S S′ a mv all. all-split l w n (u .low) (u .high) (g .was) (g .fits) S S′ t (r .side) a mv all (λ m p h ne. duty-parting _ t m _ n (r .side) (λ f o. absurd (ne f)));
           }
 
-      heading : (c : ℕ) → c ≢ 0 → (InUse l n → stateOf (at l n) ≢ STOLEN) → (InUse l n → stateOf (at l n) ≡ EXPANDED → c ≡ 16)
-          → InUse l n → Open l n (r .side)
-          → Heads n (at l n) (r .side) (stageOf (splitMoves r (refused c)))
-      heading c ne a b u (unmade z) = absurd (a u z)
-      heading c ne a b u (untaken z f) = joins (is-expanded (at l n) z .parent) (rw (b u z))
+      heading : (c : ℕ) → Unsplit l w t n tl th c → InUse l n → Open l n (r .side)
+          → Heads n (at l n) (r .side) (stageOf (splitMoves r (refusing (view l n) c)))
+      heading c f u (unmade z) = absurd (f .whole u z)
+      heading c f u (untaken z a) = takes (is-expanded (at l n) z .parent) (rw (f .late u z))
 
-      lost : (c : ℕ) → c ≢ 0 → (InUse l n → stateOf (at l n) ≢ STOLEN) → (InUse l n → stateOf (at l n) ≡ EXPANDED → c ≡ 16)
-          → Fair l t (parting n (r .side)) l (stageOf (splitMoves r (refused c)))
-      lost c ne a b =
+      lost : (c : ℕ) → Unsplit l w t n tl th c → Fair l t (parting n (r .side)) l (stageOf (splitMoves r (refusing (view l n) c)))
+      lost c f =
           fair-keep (parting n (r .side)) _ (λ m p q.
-          duty-parting l t m _ n (r .side) (λ f o. heading c ne a b (record { low = omega arith; high = omega arith }) o))
-
-  -- ---- join
-
-  pub fair-join : (r : Team) → Asks l t (joining (r .node) (r .side)) (look t (r .node)) (joinMoves r)
-  unfolding joinMoves
-  fair-join r =
-      fair-look (joining n (r .side)) n (joinMoves r) (λ a saw m p q.
-      duty-joining l t m (stageOf (joinMoves r a)) n (r .side) (λ e. heading a (saw (record { low = omega arith; high = omega arith }))))
-    where
-      n : ℕ
-      n = r .node
-
-      heading : (a : Answer) → Seen n a → stateOf (at l n) ≡ EXPANDED → Heads n (at l n) (r .side) (stageOf (joinMoves r a))
-      heading a s e = takes (is-expanded (at l n) e .parent) (rw (s .state ∙ e, s .left))
+          duty-parting l t m _ n (r .side) (λ e o. heading c f (record { low = omega arith; high = omega arith }) o))
 
   -- ---- search
 

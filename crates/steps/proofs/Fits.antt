@@ -3,30 +3,31 @@ use mathlib.Core.Path.{_≡_, refl}
 use mathlib.Core.Bool.{Bool, true, false, cond}
 use Prim.Native.Nat.{ℕ, _+_, _≤_}
 use native.Mathlib.Omega.{arith}
+use native.Mathlib.Decide.{ℕ-discrete}
 use lib.Dec.{eqb}
-use borrow.Author.Tests.{eqb-true}
+use borrow.Author.Tests.{eqb-true, ne-eqb}
 use Rattle.rules.specs.declared.Ledger.{Ledger}
 use Rattle.rules.specs.declared.Request.{Request}
 use Rattle.rules.specs.declared.Answer.{Answer}
 use Rattle.rules.specs.declared.Answered.{Answered}
 use Rattle.rules.specs.declared.Change.{Change}
 use Rattle.rules.specs.declared.Change.the-variants as change
-use Rattle.rules.specs.Requests.{seen, changed, decided, view, nodeIn, answered, requested}
+use Rattle.rules.specs.Requests.{refusing, seen, changed, decided, view, nodeIn, answered, requested}
 use Rattle.rules.specs.States.{AVAILABLE, STOLEN, EXPANDED, stateOf}
 use Rattle.rules.specs.Table.{at, put, grown}
 use Rattle.rules.proofs.Keeps.{requested-wf}
 use Rattle.rules.proofs.Record.{WF}
 use Rattle.rules.proofs.States.{is-expanded}
 use Rattle.steps.specs.declared.Place.{Place}
-use Rattle.steps.specs.declared.Place.the-variants.{Seek, Take, Work, Claim, Mark, Split, Join, Stopped}
+use Rattle.steps.specs.declared.Place.the-variants.{Seek, Take, Work, Claim, Mark, Split, Stopped}
 use Rattle.steps.specs.declared.Side.{Side}
 use Rattle.steps.specs.declared.Side.the-variants.{Left, Right}
 use Rattle.steps.specs.declared.Team.{Team}
 use Rattle.steps.specs.Asks.{mark, expand, look}
 use Rattle.steps.specs.Records.{childOn, sized, take, work}
-use Rattle.steps.specs.Places.{Search, lineAt, scan, again, onward, mine, stealable, takeMoves, workMoves, claimMoves, splitMoves, joinMoves, seekMoves, markMoves}
+use Rattle.steps.specs.Places.{Search, lineAt, scan, again, onward, mine, stealable, takeMoves, workMoves, claimMoves, splitMoves, seekMoves, markMoves}
 use Rattle.steps.specs.Step.{stepFrom}
-use Rattle.steps.proofs.Asked.{InUse, by-mark, by-expand, by-look}
+use Rattle.steps.proofs.Asked.{InUse, Parent, Unsplit, by-mark, by-expand, by-look}
 use Rattle.steps.proofs.Fair.{is-child}
 use Rattle.steps.proofs.Seeks.{Searching, seeks, steals}
 
@@ -70,9 +71,9 @@ module _ (cap : ℕ) (l : Ledger) (w : WF l) (t : ℕ) (tl : 1 ≤ t) (th : t �
   back : Fits (again r)
   back = to 1 (again r) (omega arith) (omega arith) refl refl
 
-  child-fit : n ≤ l .used → (d : Side) → eqb (stateOf (at l n)) EXPANDED ≡ true → Fits (take r (childOn d (at l n .left)))
-  child-fit h d e =
-      let c = is-child l w n (f .low) h (is-expanded (at l n) (eqb-true (stateOf (at l n)) EXPANDED e) .parent) d in
+  child-fit : Parent l n → (d : Side) → Fits (take r (childOn d (at l n .left)))
+  child-fit p d =
+      let c = is-child l w n (p .here .low) (p .here .high) (p .some) d in
       to (childOn d (at l n .left)) _ (c .low) (omega (arith, c .high)) refl refl
 
   fit-take : (a : Answer) → Fits (takeMoves r a)
@@ -97,7 +98,10 @@ module _ (cap : ℕ) (l : Ledger) (w : WF l) (t : ℕ) (tl : 1 ≤ t) (th : t �
       saw u =
           either Fits (mine t a) _ _ (λ e. same _ refl refl) (λ e.
           either Fits (eqb (stateOf (at l n)) STOLEN) _ _ (λ e. same _ refl refl) (λ e.
-          either Fits (eqb (stateOf (at l n)) EXPANDED) _ _ (λ e. child-fit (u .high) Left e) (λ e. back)))
+          either Fits (eqb (stateOf (at l n)) EXPANDED) _ _ (λ e. child-fit (parent u e) Left) (λ e. back)))
+        where
+          parent : InUse l n → eqb (stateOf (at l n)) EXPANDED ≡ true → Parent l n
+          parent u e = record { here = u; some = is-expanded (at l n) (eqb-true (stateOf (at l n)) EXPANDED e) .parent }
 
   fit-claim : (a : Answer) → Fits (claimMoves cap r a)
   unfolding claimMoves
@@ -106,22 +110,20 @@ module _ (cap : ℕ) (l : Ledger) (w : WF l) (t : ℕ) (tl : 1 ≤ t) (th : t �
       either Fits (eqb (a .code) 9) _ _ (λ e. same _ refl refl) (λ e. same _ refl refl))
 
   fit-split : Fit cap (requested l (expand t n) .ledger .used) (splitMoves r (requested l (expand t n) .answer))
-  unfolding splitMoves grown put
+  unfolding splitMoves grown put view
   fit-split =
-      by-expand l w t n tl th (λ (u : Answered). Fit cap (u .ledger .used) (splitMoves r (u .answer))) (λ g. new (r .side)) (λ c ne a b.
-      either Fits (eqb c 0) _ _ (λ e. absurd (ne (eqb-true c 0 e))) (λ e.
-      either Fits (eqb c 16) _ _ (λ e. same _ refl refl) (λ e. back)))
+      by-expand l w t n tl th (λ (u : Answered). Fit cap (u .ledger .used) (splitMoves r (u .answer))) (λ g. new (r .side)) late
     where
+      late : (c : ℕ) → Unsplit l w t n tl th c → Fits (splitMoves r (refusing (view l n) c))
+      late c u = go (ℕ-discrete c 16)
+        where
+          go : Dec (c ≡ 16) → Fits (splitMoves r (refusing (view l n) c))
+          go (yes e) = rw e (child-fit (u .told e) (r .side))
+          go (no e) = rw (ne-eqb c 0 (u .some), ne-eqb c 16 e) back
+
       new : (d : Side) → Fit cap (l .used + 2) (take r (childOn d (l .used + 1)))
       new Left = record { low = omega arith; high = omega arith; least = f .least; most = f .most }
       new Right = record { low = omega arith; high = omega arith; least = f .least; most = f .most }
-
-  fit-join : Fits (joinMoves r (requested l (look t n) .answer))
-  unfolding joinMoves
-  fit-join = by-look l w t n tl th (λ (u : Answered). Fits (joinMoves r (u .answer))) saw (λ none. back)
-    where
-      saw : InUse l n → Fits (joinMoves r (seen (at l n)))
-      saw u = either Fits (eqb (stateOf (at l n)) EXPANDED) _ _ (λ e. child-fit (u .high) (r .side) e) (λ e. back)
 
   -- ---- program 1
 
@@ -191,7 +193,6 @@ module _ (s : Search) (t : ℕ) (roams : Roams s t) (cap : ℕ) (some : 1 ≤ ca
   step-grows Claim = used-grows l _ w
   step-grows Mark = used-grows l _ w
   step-grows Split = used-grows l _ w
-  step-grows Join = used-grows l _ w
   step-grows Stopped = omega arith
 
   pub step-fit : (p : Place) → Fit cap (stepFrom p s t cap l r .ledger .used) (stepFrom p s t cap l r .team)
@@ -202,5 +203,4 @@ module _ (s : Search) (t : ℕ) (roams : Roams s t) (cap : ℕ) (some : 1 ≤ ca
   step-fit Claim = fit-more (used-grows l _ w) (fit-claim cap l w t tl th r f some _)
   step-fit Mark = fit-more (used-grows l _ w) (roams .fits Mark steals cap l w tl th r f some)
   step-fit Split = fit-split cap l w t tl th r f some
-  step-fit Join = fit-more (used-grows l _ w) (fit-join cap l w t tl th r f some)
   step-fit Stopped = f

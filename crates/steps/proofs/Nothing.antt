@@ -21,7 +21,7 @@ use Rattle.rules.proofs.Record.{WF}
 use Rattle.rules.proofs.States.{never, State, state-of, available, owning, done, stolen, expanded, claimed, expanded-is}
 use Rattle.rules.proofs.Sums.{sumBy-zero}
 use Rattle.steps.specs.declared.Place.{Place}
-use Rattle.steps.specs.declared.Place.the-variants.{Seek, Take, Work, Claim, Mark, Split, Join, Stopped}
+use Rattle.steps.specs.declared.Place.the-variants.{Seek, Take, Work, Claim, Mark, Split, Stopped}
 use Rattle.steps.specs.declared.Side.{Side}
 use Rattle.steps.specs.declared.Side.the-variants.{Left, Right}
 use Rattle.steps.specs.declared.Team.{Team}
@@ -29,7 +29,7 @@ use Rattle.steps.specs.Records.{isStopped}
 use Rattle.steps.specs.Places.{Search}
 use Rattle.steps.specs.Run.{Run, stoppedTo, stoppedTeams}
 use Rattle.steps.specs.Demands.{NothingLeft}
-use Rattle.steps.proofs.Stages.{Stage, ended, stageOf, stageAt, child, Heads, works, parts, joins, takes, Open, unmade, untaken, All}
+use Rattle.steps.proofs.Stages.{Stage, ended, stageOf, stageAt, child, Heads, works, parts, takes, Open, unmade, untaken, All}
 use Rattle.steps.proofs.Seeks.{Hopeful, will-take, searching, Seeks}
 use Rattle.steps.proofs.Runs.{at-team, stages, Good, run-good, begun-good}
 
@@ -42,7 +42,6 @@ stopped-stage Work n d e = never (let f : false ≡ true = e in cc)
 stopped-stage Claim n d e = never (let f : false ≡ true = e in cc)
 stopped-stage Mark n d e = never (let f : false ≡ true = e in cc)
 stopped-stage Split n d e = never (let f : false ≡ true = e in cc)
-stopped-stage Join n d e = never (let f : false ≡ true = e in cc)
 stopped-stage Stopped n d e = refl
 
 at-most : (rs : List Team) (k : ℕ) → stoppedTo rs k ≤ k
@@ -80,7 +79,6 @@ each-stopped rs (suc k) e (suc t) h =
 nobody : (n : ℕ) (x : Node) (d : Side) (s : Stage) → s ≡ ended → Heads n x d s → ⊥
 nobody n x d s e (works a b) = never (cc)
 nobody n x d s e (parts a) = never (cc)
-nobody n x d s e (joins a b) = never (cc)
 nobody n x d s e (takes a b) = never (cc)
 
 module _ (l : Ledger) (w : WF l) (S : ℕ → Stage) (all : All l S) (rest : (t : ℕ) → t ≤ l .teams → S t ≡ ended)

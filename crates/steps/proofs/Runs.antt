@@ -31,7 +31,7 @@ use Rattle.rules.proofs.Record.{WF}
 use Rattle.rules.proofs.States.{never, is-available}
 use Rattle.rules.proofs.Tests.{passed}
 use Rattle.steps.specs.declared.Place.{Place}
-use Rattle.steps.specs.declared.Place.the-variants.{Seek, Take, Work, Claim, Mark, Split, Join, Stopped}
+use Rattle.steps.specs.declared.Place.the-variants.{Seek, Take, Work, Claim, Mark, Split, Stopped}
 use Rattle.steps.specs.declared.Team.{Team}
 use Rattle.steps.specs.declared.Stepped.{Stepped}
 use Rattle.steps.specs.Records.{freshTeam, noTeam}
@@ -40,7 +40,7 @@ use Rattle.steps.specs.Step.{stepFrom, stepAt, unmoved, lentTests, lentC
 use Rattle.steps.specs.Run.{Run, begun, stepTeam, runTeams}
 use Rattle.steps.proofs.Stages.{Stage, taking, ended, stageOf, stageAt, Tended, All, Moved}
 use Rattle.steps.proofs.Changes.{tended-shut, fresh-states}
-use Rattle.steps.proofs.Fair.{Fair, fair-stopped, fair-take, fair-work, fair-claim, fair-split, fair-join, fair-hunt, taken, leaf}
+use Rattle.steps.proofs.Fair.{Fair, fair-stopped, fair-take, fair-work, fair-claim, fair-split, fair-hunt, taken, leaf}
 use Rattle.steps.proofs.Seeks.{seeks, steals, Hopeful, will-take, searching, Seeks}
 
 -- ---- the stages of a table of records
@@ -108,7 +108,6 @@ module _ (s : Search) (cap t : ℕ) (l : Ledger) (w : WF l) (r : Team) where
   step-wf Claim = wf-next _
   step-wf Mark = wf-next _
   step-wf Split = wf-next _
-  step-wf Join = wf-next _
   step-wf Stopped = w
 
   pub step-teams : (p : Place) → stepFrom p s t cap l r .ledger .teams ≡ l .teams
@@ -119,7 +118,6 @@ module _ (s : Search) (cap t : ℕ) (l : Ledger) (w : WF l) (r : Team) where
   step-teams Claim = teams-kept l _ w
   step-teams Mark = teams-kept l _ w
   step-teams Split = teams-kept l _ w
-  step-teams Join = teams-kept l _ w
   step-teams Stopped = refl
 
   module _ (tl : 1 ≤ t) (th : t ≤ l .teams) (hopeful : Team → Type 0) (sought : Seeks s t hopeful) where
@@ -133,7 +131,6 @@ module _ (s : Search) (cap t : ℕ) (l : Ledger) (w : WF l) (r : Team) where
     step-fair Claim e = fair-claim l w t tl th cap r
     step-fair Mark e = fair-hunt l w t tl th (s .marking) cap r (sought .hunts Mark steals cap r)
     step-fair Split e = fair-split l w t tl th r
-    step-fair Join e = fair-join l w t tl th r
     step-fair Stopped e = rw e (fair-stopped l w t tl th ended)
 
     -- while nobody has the root, a team on the way to it stays on the way
@@ -164,8 +161,6 @@ module _ (s : Search) (cap t : ℕ) (l : Ledger) (w : WF l) (r : Team) where
     step-hope Claim e (searching f h) free still = never (cc)
     step-hope Split e (will-take f) free still = never (cc)
     step-hope Split e (searching f h) free still = never (cc)
-    step-hope Join e (will-take f) free still = never (cc)
-    step-hope Join e (searching f h) free still = never (cc)
     step-hope Stopped e (will-take f) free still = never (cc)
     step-hope Stopped e (searching f h) free still = never (cc)
 

@@ -10,7 +10,7 @@ use Rattle.rules.specs.States.{AVAILABLE, OWNED, STOLEN, EXPANDED, stateOf}
 use Rattle.rules.specs.Table.{at}
 use Rattle.rules.proofs.States.{never, is-stolen}
 use Rattle.steps.specs.declared.Place.{Place}
-use Rattle.steps.specs.declared.Place.the-variants.{Seek, Take, Work, Claim, Mark, Split, Join, Stopped}
+use Rattle.steps.specs.declared.Place.the-variants.{Seek, Take, Work, Claim, Mark, Split, Stopped}
 use Rattle.steps.specs.declared.Side.{Side}
 use Rattle.steps.specs.declared.Side.the-variants.{Left, Right}
 use Rattle.steps.specs.declared.Team.{Team}
@@ -22,7 +22,6 @@ pub data Stage : Type 0 where
   taking : ℕ → Stage
   busy : ℕ → Stage
   parting : ℕ → Side → Stage
-  joining : ℕ → Side → Stage
   ended : Stage
 
 abbrev pub stageAt : Place → ℕ → Side → Stage
@@ -32,7 +31,6 @@ stageAt Take n d = taking n
 stageAt Work n d = busy n
 stageAt Claim n d = busy n
 stageAt Split n d = parting n d
-stageAt Join n d = joining n d
 stageAt Stopped n d = ended
 
 abbrev pub stageOf : Team → Stage
@@ -45,7 +43,6 @@ child x d = childOn d (x .left)
 pub data Heads (n : ℕ) (x : Node) (d : Side) (s : Stage) : Type 0 where
   works : d ≡ Left → s ≡ busy n → Heads n x d s
   parts : s ≡ parting n d → Heads n x d s
-  joins : 0 < x .left → s ≡ joining n d → Heads n x d s
   takes : 0 < x .left → s ≡ taking (child x d) → Heads n x d s
 
 -- that child is still to be made, or to be taken
@@ -90,7 +87,6 @@ module _ (l : Ledger) (t m : ℕ) where
       go : (d : Side) → Heads m (at l m) d hunt → Heads m (at l m) d s′
       go d (works e f) = never (cc)
       go d (parts f) = never (cc)
-      go d (joins h f) = never (cc)
       go d (takes h f) = never (cc)
 
   -- nor has one that would take a node which is not AVAILABLE
@@ -104,7 +100,6 @@ module _ (l : Ledger) (t m : ℕ) where
       go : (d : Side) → Open l m d → Heads m (at l m) d (taking c) → Heads m (at l m) d s′
       go d o (works e f) = never (cc)
       go d o (parts f) = never (cc)
-      go d o (joins h f) = never (cc)
       go d o (takes h f) = absurd (closed d o h (cc))
 
   -- one at work on n has its own node, and the left child
@@ -121,7 +116,6 @@ module _ (l : Ledger) (t m : ℕ) where
       go : (d : Side) → Open l m d → Heads m (at l m) d (busy n) → Heads m (at l m) d s′
       go d o (works e f) = let g : m ≡ n = cc in rw (e, g) (heads-on g (rw (e, g) at o))
       go d o (parts f) = never (cc)
-      go d o (joins h f) = never (cc)
       go d o (takes h f) = never (cc)
 
   pub duty-parting : (s′ : Stage) (n : ℕ) (d : Side) → (m ≡ n → Open l n d → Heads n (at l n) d s′) → Duty l t (parting n d) s′ m
@@ -131,21 +125,6 @@ module _ (l : Ledger) (t m : ℕ) where
       go : (e : Side) → Open l m e → Heads m (at l m) e (parting n d) → Heads m (at l m) e s′
       go e o (works g f) = never (cc)
       go e o (parts f) = let g : m ≡ n = cc in let k : e ≡ d = cc in rw (k, g) (heads-on g (rw (k, g) at o))
-      go e o (joins h f) = never (cc)
-      go e o (takes h f) = never (cc)
-
-  pub duty-joining : (s′ : Stage) (n : ℕ) (d : Side) → (m ≡ n → stateOf (at l n) ≡ EXPANDED → Heads n (at l n) d s′) → Duty l t (joining n d) s′ m
-  duty-joining s′ n d heads-on =
-      record { mine = λ a b c. never (cc); side = λ e o h. go e o h }
-    where
-      expanded : (e : Side) → Open l m e → 0 < at l m .left → stateOf (at l m) ≡ EXPANDED
-      expanded e (unmade f) h = absurd (let z = is-stolen (at l m) f .leaf in omega arith)
-      expanded e (untaken f a) h = f
-
-      go : (e : Side) → Open l m e → Heads m (at l m) e (joining n d) → Heads m (at l m) e s′
-      go e o (works g f) = never (cc)
-      go e o (parts f) = never (cc)
-      go e o (joins h f) = let g : m ≡ n = cc in let k : e ≡ d = cc in rw (k, g) (heads-on g (rw g at (expanded e o h)))
       go e o (takes h f) = never (cc)
 
 -- ---- a node that stays as it is

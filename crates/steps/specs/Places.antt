@@ -1,15 +1,15 @@
--- The eight places: what a team asks at each, and where the answer sends it. How a team looks for work, at seek and at mark, is a parameter.
+-- The seven places: what a team asks at each, and where the answer sends it. How a team looks for work, at seek and at mark, is a parameter.
 use Prim.Native.Nat.{ℕ, _+_, _*_, min}
-use mathlib.Core.Bool.{Bool, cond, _&&_, not}
+use mathlib.Core.Bool.{Bool, cond, _&&_, _||_, not}
 use lib.Dec.{eqb}
 use Rattle.rules.specs.declared.Request.{Request}
 use Rattle.rules.specs.declared.Answer.{Answer}
 use Rattle.rules.specs.States.{AVAILABLE, OWNED, STOLEN, EXPANDED}
 use Rattle.steps.specs.declared.Place.{Place}
-use Rattle.steps.specs.declared.Place.the-variants.{Seek, Take, Work, Claim, Mark, Split, Join, Stopped}
+use Rattle.steps.specs.declared.Place.the-variants.{Seek, Take, Work, Claim, Mark, Split, Stopped}
 use Rattle.steps.specs.declared.Side.the-variants.{Left, Right}
 use Rattle.steps.specs.declared.Team.{Team}
-use Rattle.steps.specs.Records.{sized, seek, take, work, claim, mark, split, join, stop, childOn}
+use Rattle.steps.specs.Records.{sized, seek, take, work, claim, mark, split, stop, childOn}
 use Rattle.steps.specs.Asks as asks
 
 -- ---- what an answer says
@@ -90,15 +90,15 @@ claimMoves cap r a =
     (work (sized r (grownSize cap r)) (r .node))
     (cond (hasCode 9 a) (split r (r .node) Left) (work r (r .node)))
 
--- "split(n, side): expand. Granted: take that child. Code 16: join(n, side). Else seek(1)."
+-- the children exist, and the answer tells where: by this team's split, or by one that came before it
+abbrev pub isParted : Answer → Bool
+isParted a = isGranted a || hasCode 16 a
+
+-- split(n, side): expand. Granted, or code 16: take that child. Else seek(1).
 unfoldable pub splitMoves : Team → Answer → Team
-splitMoves r a = cond (isGranted a) (takeChild r a) (cond (hasCode 16 a) (join r (r .node) (r .side)) (again r))
+splitMoves r a = cond (isParted a) (takeChild r a) (again r)
 
--- "join(n, side): look. EXPANDED: take that child. Else seek(1)."
-unfoldable pub joinMoves : Team → Answer → Team
-joinMoves r a = cond (sees EXPANDED a) (takeChild r a) (again r)
-
--- ---- all eight
+-- ---- all seven
 
 -- a place's line: the request that team t makes there, and where its answer sends the team, in a run with this cap
 pub record Line : Type 0 where
@@ -129,5 +129,4 @@ lineAt s Claim =
     }
 lineAt s Mark = s .marking
 lineAt s Split = record { asks = λ t r. asks.expand t (r .node); moves = λ t cap r a. splitMoves r a }
-lineAt s Join = record { asks = λ t r. asks.look t (r .node); moves = λ t cap r a. joinMoves r a }
 lineAt s Stopped = record { asks = λ t r. asks.nothing; moves = λ t cap r a. r }

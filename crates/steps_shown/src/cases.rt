@@ -103,7 +103,7 @@ pub(crate) fn mark() {
     tried(ledgers::claimed(7, 3), 2, 4, at(Place::Mark, 1));
 }
 
-// Granted on either side, code 16 on either side, code 15.
+// Granted on either side; code 16 on either side, which tells where the children are too; code 15.
 pub(crate) fn split() {
     show::words(b"split\n");
     tried(ledgers::stolen(), 1, 4, facing(Place::Split, 1, Side::Left));
@@ -133,22 +133,8 @@ pub(crate) fn split() {
     );
 }
 
-// EXPANDED on either side, and any other state; and a team that has stopped.
-pub(crate) fn join() {
-    show::words(b"join\n");
-    tried(
-        ledgers::expanded(),
-        1,
-        4,
-        facing(Place::Join, 1, Side::Left),
-    );
-    tried(
-        ledgers::expanded(),
-        2,
-        4,
-        facing(Place::Join, 1, Side::Right),
-    );
-    tried(ledgers::owned(7), 2, 4, facing(Place::Join, 1, Side::Right));
+// It asks nothing.
+pub(crate) fn stopped() {
     show::words(b"stopped\n");
     tried(ledgers::opened(7), 1, 4, at(Place::Stopped, 9));
 }

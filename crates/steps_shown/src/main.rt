@@ -73,7 +73,7 @@ fn main() {
     cases::claim();
     cases::mark();
     cases::split();
-    cases::join();
+    cases::stopped();
     cases::limits();
     cases::refused();
 }

@@ -28,7 +28,6 @@ fn place(p: Place) {
         Place::Claim => io::write_all(STDOUT_FILENO, b" claim"),
         Place::Mark => io::write_all(STDOUT_FILENO, b" mark"),
         Place::Split => io::write_all(STDOUT_FILENO, b" split"),
-        Place::Join => io::write_all(STDOUT_FILENO, b" join"),
         Place::Stopped => io::write_all(STDOUT_FILENO, b" stopped"),
     }
     ;

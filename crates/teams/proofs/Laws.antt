@@ -18,7 +18,7 @@ use Rattle.rules.specs.declared.Outcome.{Outcome}
 use Rattle.rules.specs.declared.Change.the-variants.{Keep}
 use Rattle.rules.specs.Limits.{maxCap}
 use Rattle.rules.specs.Refusals.{refusal}
-use Rattle.rules.specs.Requests.{refused, outcome, owning, advancing, marking, expanding, looking, granted, decided, view, nodeIn, answered, requested}
+use Rattle.rules.specs.Requests.{refusing, outcome, owning, advancing, marking, expanding, looking, granted, decided, view, nodeIn, answered, requested}
 use Rattle.rules.specs.Table.{at}
 use Rattle.rules.specs.WellFormed.{wellFormed}
 use Rattle.rules.proofs.Keeps.{requested-wf}
@@ -47,10 +47,14 @@ left-small v q k node pair = refused-or (eqb (refusal v q) 0)
     of-kind false false false true = unfold expanding in pair
     of-kind false false false false = unfold looking in node
 
-    refused-or : (b : Bool) → cond b (granted v q) (outcome (refused (refusal v q)) Keep) .answer .left ≤ k
+    refused-or : (b : Bool) → cond b (granted v q) (outcome (refusing v (refusal v q)) Keep) .answer .left ≤ k
     refused-or true =
         unfold granted in (of-kind (eqb (natOf (q .kind)) 1) (eqb (natOf (q .kind)) 2) (eqb (natOf (q .kind)) 3) (eqb (natOf (q .kind)) 4))
-    refused-or false = omega arith
+    refused-or false = late (eqb (refusal v q) 16)
+      where
+        late : (b : Bool) → cond b (v .node .left) 0 ≤ k
+        late true = node
+        late false = omega arith
 
 module _ (l : Ledger) (slots : length (l .nodes) ≡ 1023) (formed : wellFormed l ≡ true) where
   w : WF l
