@@ -1,20 +1,19 @@
 -- The statements of specs/Demands.antt, proved.
 use Prim.Native.Nat.{ℕ, zero, suc, _<_, _≤_}
 use mathlib.Core.Logic.{_≢_}
-use mathlib.Core.Path.{_≡_, refl, sym, ap, _∙_}
+use mathlib.Core.Path.{_≡_, refl, ap, _∙_}
 use mathlib.Core.Bool.{Bool, true, false, cond, _&&_}
-use mathlib.Core.List.{List, map, _∷_}
+use mathlib.Core.List.{List}
 use native.Mathlib.Numerals.{add-one}
 use native.Mathlib.Omega.{arith}
 use borrow.Author.Tests.{lt-ltb, leb-true}
 use lib.Dec.{leb}
-use lib.ListN.{length, set, getD}
+use lib.ListN.{length, set}
 use lib.Seq.{take-append-seam, getD-set-same, getD-set-other}
 use Rattle.rules.specs.declared.Ledger.{Ledger}
 use Rattle.rules.specs.Limits.{maxNodes}
-use Rattle.rules.specs.Listed.{listed}
 use Rattle.rules.specs.WellFormed.{wellFormed}
-use Rattle.rules.proofs.Facts.{both, facts}
+use Rattle.rules.proofs.Facts.{both}
 use Rattle.rules.specs.declared.Opening.{Opening}
 use Rattle.rules.specs.declared.Request.{Request}
 use Rattle.rules.specs.Listing.{reached, batches}
@@ -27,7 +26,7 @@ use Rattle.rules.proofs.Sheets.{begun, every-sheet-once}
 use Rattle.sheet_order.specs.declared.Piece.{Piece}
 use Rattle.sheet_order.specs.declared.Pieces.{Pieces}
 use Rattle.sheet_order.specs.Row.{noPiece, row, empty, told, withPiece, withAll}
-use Rattle.sheet_order.specs.Order.{Readable, grantedTo, batchOf, history, sheetsOf, rootPieces, small, inOrder}
+use Rattle.sheet_order.specs.Order.{Readable, grantedTo, sheetsOf, rootPieces, small, inOrder}
 use Rattle.sheet_order.specs.Demands.{ReadsListing, NotesGrant, ReadsEverySheet}
 use Rattle.sheet_order.proofs.Row.{filled}
 use Rattle.sheet_order.proofs.Order.{sheets-listed}

@@ -1,6 +1,6 @@
 -- The pieces of a node, as the code gathers them, and that their sheets are the rules' listing.
 use Prim.Native.Nat.{ℕ, zero, suc, _+_, _-_, _≤_, _<_}
-use mathlib.Core.Path.{_≡_, refl, sym, ap, _∙_}
+use mathlib.Core.Path.{_≡_, refl, ap}
 use mathlib.Core.Bool.{Bool, true, false, cond}
 use mathlib.Core.List.{List, [], _∷_, _++_, append-assoc, append-nil, map}
 use native.Mathlib.Numerals.{add-one}
@@ -8,7 +8,6 @@ use native.Mathlib.Omega.{arith}
 use lib.Dec.{eqb}
 use lib.ListN.{getD}
 use borrow.Author.Tests.{eqb-false}
-use Rattle.rules.specs.declared.Node.{Node}
 use Rattle.rules.specs.declared.Ledger.{Ledger}
 use Rattle.rules.specs.Listed.{listed}
 use Rattle.rules.specs.Listing.{sheets, grantedFrom}
@@ -70,9 +69,10 @@ pub children : (l : Ledger) (g : Pieces) (n : ℕ)
 children l g n r c =
     let w = rules l (r .slots) (r .formed) in
     let some : 0 < at l n .left = omega (arith, eqb-false (at l n .left) 0 c) in
-    let p = w .pair n (r .low) (r .high) some in
-    (record { slots = r .slots; formed = r .formed; grants = r .grants; low = omega arith; high = omega (arith, p .inside) },
-      record { slots = r .slots; formed = r .formed; grants = r .grants; low = omega arith; high = omega (arith, p .inside) })
+    let p = w .pair n (r .low) (r .high) some in (
+      record { slots = r .slots; formed = r .formed; grants = r .grants; low = omega arith; high = omega (arith, p .inside) },
+      record { slots = r .slots; formed = r .formed; grants = r .grants; low = omega arith; high = omega (arith, p .inside) },
+    )
 
 -- and so are numbers of slots
 pub slot-small : (l : Ledger) (g : Pieces) (n : ℕ) → Readable l g n → n ≤ 1023

@@ -1,13 +1,13 @@
 -- A row that is filled piece after piece is the list of them, where they fit.
-use Prim.Native.Nat.{ℕ, zero, suc, _+_, _-_, _≤_, _<_}
+use Prim.Native.Nat.{ℕ, suc, _+_, _-_, _≤_, _<_}
 use mathlib.Core.Path.{_≡_, refl, sym, ap, _∙_}
-use mathlib.Core.Bool.{true, false, cond}
-use mathlib.Core.List.{List, [], _∷_, _++_, append-assoc, append-nil}
+use mathlib.Core.Bool.{cond}
+use mathlib.Core.List.{List, [], _∷_, _++_, append-nil}
 use native.Mathlib.Omega.{arith}
 use native.Mathlib.Decide.{decLt, decLe}
 use borrow.Author.Tests.{lt-ltb, le-ltb, lt-leb}
-use lib.Dec.{leb, ltb}
-use lib.ListN.{length, set, replicate, length-append}
+use lib.Dec.{leb}
+use lib.ListN.{length, replicate, length-append}
 use lib.Seq.{set-append-seam, append-snoc}
 use Rattle.sheet_order.specs.declared.Piece.{Piece}
 use Rattle.sheet_order.specs.declared.Pieces.{Pieces}

@@ -1,5 +1,5 @@
 -- What the computed listing says, as statements. `proofs/Demands.antt` proves them.
-use Prim.Native.Nat.{ℕ, _<_, _≤_}
+use Prim.Native.Nat.{_<_}
 use mathlib.Core.Path.{_≡_}
 use mathlib.Core.List.{List, _∷_}
 use lib.ListN.{length}

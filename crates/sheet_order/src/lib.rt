@@ -111,8 +111,10 @@ fn with_node(row: Pieces, depth: u32, l: Ledger, granted: Pieces, n: u32) -> Pie
             to: x.until,
         });
     }
-    let left = with_node(own, depth - 1, l, granted, x.left);
-    with_node(left, depth - 1, l, granted, x.left + 1)
+    let left = x.left;
+    let right = left + 1;
+    let then = with_node(own, depth - 1, l, granted, left);
+    with_node(then, depth - 1, l, granted, right)
 }
 
 // A row that found no room for a piece is none.

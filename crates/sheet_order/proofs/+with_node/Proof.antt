@@ -7,7 +7,6 @@ use Rattle.rules.specs.Table.{at}
 use Rattle.sheet_order.specs.Order.{grantedTo}
 use Rattle.sheet_order.proofs.Order.{node-none, node-ends, node-parts, children, slot-small}
 use native.Mathlib.Omega.{arith}
-use borrow.Author.Needs.{needs}
 use borrow.Fn.Kinds.{In}
 use borrow.Fn.PlainCycle.{Measures, is, falls, and}
 use Rattle.sheet_order.proofs.with_node.Reads as with-node
@@ -60,23 +59,25 @@ unfolding at
     let own = c .before .before .before .before .with-granted in
     let bare : childless (at (a .t3) (a .n)) ≡ true = cc in
     cc (node-ends (a .row) (own .result) (a .t3) (grantedTo (a .granted .items) (a .granted .count)) (a .n) (own .ensures) (a .depth) (omega arith) bare))
+    (λ c.
+    let s = c .before .before .before .before .before in
+    let some : childless (at (s .args .t3) (s .args .n)) ≡ false = cc in
+    let kids = children (s .args .t3) (s .args .granted) (s .args .n) (s .pre .1) some in
+    omega (arith, slot-small (s .args .t3) (s .args .granted) _ (kids .1)))
     (λ c. omega arith)
     (λ c κs.
     let s = c .before .before .before .before .before in
     let some : childless (at (s .args .t3) (s .args .n)) ≡ false = cc in
-    (omega (arith, s .pre .0), children (s .args .t3) (s .args .granted) (s .args .n) (s .pre .1) some .0))
+    let kids = children (s .args .t3) (s .args .granted) (s .args .n) (s .pre .1) some in
+    (omega (arith, s .pre .0), search (kids .0, kids .1)))
     (λ c. omega arith)
-    (λ c.
-    let s = c .before .before .before .before .before .before .before in
-    let some : childless (at (s .args .t3) (s .args .n)) ≡ false = cc in
-    let r = children (s .args .t3) (s .args .granted) (s .args .n) (s .pre .1) some .1 in
-    omega (arith, slot-small (s .args .t3) (s .args .granted) _ r))
     (λ c κs.
-    let s = c .before .before .before .before .before .before .before in
+    let s = c .before .before .before .before .before .before in
     let some : childless (at (s .args .t3) (s .args .n)) ≡ false = cc in
-    (omega (arith, s .pre .0), children (s .args .t3) (s .args .granted) (s .args .n) (s .pre .1) some .1))
+    let kids = children (s .args .t3) (s .args .granted) (s .args .n) (s .pre .1) some in
+    (omega (arith, s .pre .0), search (kids .0, kids .1)))
     (λ c.
-    let a = c .before .before .before .before .before .before .before .before .args in
-    let own = c .before .before .before .before .before .with-granted in
+    let a = c .before .before .before .before .before .before .before .args in
+    let own = c .before .before .before .before .with-granted in
     let some : childless (at (a .t3) (a .n)) ≡ false = cc in
-    node-parts (a .row) (own .result) (a .t3) (grantedTo (a .granted .items) (a .granted .count)) (a .n) (own .ensures) (a .depth) (omega arith) some (c .before .before .with-node .ensures) (c .with-node2 .ensures))
+    node-parts (a .row) (own .result) (a .t3) (grantedTo (a .granted .items) (a .granted .count)) (a .n) (own .ensures) (a .depth) (omega arith) some (c .before .with-node .ensures) (c .with-node2 .ensures))

@@ -32,7 +32,7 @@ returns c =
     let a = c .before .before .before .before .before .before .before .args in
     let e : small (a .l) (a .granted) ≡ true = cc in
     let r : c .settled .result ≡ inOrder (a .l) (a .granted) =
-        small-answer (a .l) (a .granted) e (c .before .before .none .ensures) (c .before .with-node .ensures) (c .settled .ensures) in
+    small-answer (a .l) (a .granted) e (c .before .before .none .ensures) (c .before .with-node .ensures) (c .settled .ensures) in
     (r, rw r (reads-listing (a .l) (a .granted)))
 
 none-requires-2 : tie.Need-none-requires-2

@@ -1,6 +1,5 @@
 -- The test is the definition's.
 use borrow.Author.Tests.{le-leb, lt-leb}
-use mathlib.Core.Path.{_≡_, sym}
 use native.Mathlib.Omega.{arith}
 use Rattle.sheet_order.proofs.settled.Statement.{statement}
 use Rattle.sheet_order.proofs.settled.Tie as tie
