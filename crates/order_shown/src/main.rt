@@ -65,7 +65,7 @@ fn refusals() {
 }
 
 // Team 1 was granted sheet 0 of node 1 so many times over: such a history never comes about, and its listing is no longer each sheet once.
-fn same_grant(count: u32) {
+fn same_grant(count: usize) {
     let one = Piece {
         team: 1,
         node: 1,
@@ -74,7 +74,7 @@ fn same_grant(count: u32) {
     };
     let granted = Pieces {
         count: count,
-        items: [one; 32],
+        items: [one; Pieces::MOST],
     };
     show::listing(lesson::opened(0, 2, 1, 1), granted);
 }

@@ -81,8 +81,8 @@ fn cells(p: Piece, row: u32) {
 
 // The slots behind the last piece have no sheets.
 fn row_of(listing: Pieces, row: u32) {
-    let mut i: usize = 0;
-    while i < 32 {
+    let mut i = 0;
+    while i < Pieces::MOST {
         cells(listing.items[i], row);
         i += 1;
     }

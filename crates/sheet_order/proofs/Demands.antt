@@ -6,7 +6,7 @@ use mathlib.Core.Bool.{Bool, true, false, cond, _&&_}
 use mathlib.Core.List.{List}
 use native.Mathlib.Numerals.{add-one}
 use native.Mathlib.Omega.{arith}
-use borrow.Author.Tests.{lt-ltb, leb-true}
+use borrow.Author.Tests.{lt-ltb, le-leb, leb-true}
 use lib.Dec.{leb}
 use lib.ListN.{length, set}
 use lib.Seq.{take-append-seam, getD-set-same, getD-set-other}
@@ -25,11 +25,11 @@ use Rattle.rules.proofs.Record.{WF, rules, rules-back}
 use Rattle.rules.proofs.Sheets.{begun, every-sheet-once}
 use Rattle.sheet_order.specs.declared.Piece.{Piece}
 use Rattle.sheet_order.specs.declared.Pieces.{Pieces}
-use Rattle.sheet_order.specs.Row.{noPiece, row, empty, told, withPiece, withAll}
-use Rattle.sheet_order.specs.Order.{Readable, grantedTo, sheetsOf, rootPieces, small, inOrder}
-use Rattle.sheet_order.specs.Demands.{ReadsListing, NotesGrant, ReadsEverySheet}
+use Rattle.sheet_order.specs.Row.{most, noPiece, row, empty, told, withPiece, withAll}
+use Rattle.sheet_order.specs.Order.{Readable, mostNodes, grantedTo, sheetsOf, rootPieces, small, inOrder}
+use Rattle.sheet_order.specs.Demands.{ReadsListing, ReadsSmall, NotesGrant, ReadsEverySheet}
 use Rattle.sheet_order.proofs.Row.{filled}
-use Rattle.sheet_order.proofs.Order.{sheets-listed}
+use Rattle.sheet_order.proofs.Order.{some-piece, sheets-listed}
 
 -- ---- the answer
 
@@ -41,7 +41,7 @@ answered false ps h = absurd (omega arith)
 pub reads-listing : ReadsListing
 unfolding inOrder
 reads-listing l g h =
-    ap sheetsOf (answered (small l g && leb (length (rootPieces l g)) 32) (rootPieces l g) h)
+    ap sheetsOf (answered (small l g && leb (length (rootPieces l g)) most) (rootPieces l g) h)
     ∙ sheets-listed (l .used) l (grantedTo (g .items) (g .count)) 1
 
 module _ (l : Ledger) (g : Pieces) where
@@ -49,7 +49,7 @@ module _ (l : Ledger) (g : Pieces) where
       → small l g ≡ true
       → none ≡ empty
       → all ≡ withAll none (rootPieces l g)
-      → r ≡ cond (leb (all .count) 32) all empty
+      → r ≡ cond (leb (all .count) most) all empty
       → r ≡ inOrder l g
   unfolding inOrder
   small-answer e n a s = rw (e, s, a, n) (filled (rootPieces l g))
@@ -63,14 +63,23 @@ module _ (l : Ledger) (g : Pieces) where
   root-readable slots e =
       let h = both (wellFormed l) _ .0 e in
       let w = rules l slots (h .0) in
-      let k = both (leb (l .used) 31) _ .0 (h .1) in
+      let k = both (leb (l .used) mostNodes) _ .0 (h .1) in
       record {
         slots = slots;
         formed = h .0;
-        grants = leb-true (g .count) 32 (k .1);
+        grants = leb-true (g .count) most (k .1);
         low = omega arith;
         high = omega (arith, w .odd);
       }
+
+pub reads-small : ReadsSmall
+unfolding inOrder row
+reads-small l g slots e fits =
+    let r = root-readable l g slots e in
+    let w = rules l slots (r .formed) in
+    rw
+    (e, le-leb (length (rootPieces l g)) most fits)
+    (some-piece l (grantedTo (g .items) (g .count)) (l .used) 1 w (omega arith) (r .high) (omega arith))
 
 -- ---- a grant more
 
@@ -87,7 +96,7 @@ unfolding withPiece grantedTo
 notes-grant g p slots h =
     let room : g .count < length (g .items) = omega arith in
     rw
-    (lt-ltb (g .count) 32 h, add-one (g .count), getD-set-same (g .items) (g .count) p noPiece room, earlier (g .items) (g .count) (g .count) p (omega arith))
+    (lt-ltb (g .count) most h, add-one (g .count), getD-set-same (g .items) (g .count) p noPiece room, earlier (g .items) (g .count) (g .count) p (omega arith))
 
 -- ---- after any requests
 

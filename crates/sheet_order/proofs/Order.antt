@@ -6,8 +6,9 @@ use mathlib.Core.List.{List, [], _∷_, _++_, append-assoc, append-nil, map}
 use native.Mathlib.Numerals.{add-one}
 use native.Mathlib.Omega.{arith}
 use lib.Dec.{eqb}
-use lib.ListN.{getD}
-use borrow.Author.Tests.{eqb-false}
+use lib.ListN.{length, getD, length-append}
+use borrow.Author.Tests.{eqb-false, eq-eqb, ne-eqb}
+use native.Mathlib.Decide.{ℕ-discrete}
 use Rattle.rules.specs.declared.Ledger.{Ledger}
 use Rattle.rules.specs.Listed.{listed}
 use Rattle.rules.specs.Listing.{sheets, grantedFrom}
@@ -16,8 +17,8 @@ use Rattle.rules.specs.Table.{at}
 use Rattle.sheet_order.specs.declared.Piece.{Piece}
 use Rattle.sheet_order.specs.declared.Pieces.{Pieces}
 use Rattle.sheet_order.specs.Row.{noPiece, withPiece, withAll}
-use Rattle.rules.proofs.Record.{rules}
-use Rattle.sheet_order.specs.Order.{Readable, grantedTo, batchOf, sheetsOf, fromNode, unclaimedPiece, pieces}
+use Rattle.rules.proofs.Record.{WF, rules}
+use Rattle.sheet_order.specs.Order.{Readable, grantedTo, asBatch, sheetsOf, fromNode, unclaimedPiece, pieces}
 use Rattle.sheet_order.proofs.Row.{withAll-both, withAll-one}
 
 -- ---- gathering
@@ -78,6 +79,26 @@ children l g n r c =
 pub slot-small : (l : Ledger) (g : Pieces) (n : ℕ) → Readable l g n → n ≤ 1023
 slot-small l g n r = let w = rules l (r .slots) (r .formed) in omega (arith, w .used-room, w .room-high, r .high)
 
+-- as deep as there are nodes, a node has pieces
+pub some-piece : (l : Ledger) (ps : List Piece) (depth n : ℕ)
+    → WF l
+    → 1 ≤ n
+    → n ≤ l .used
+    → l .used < depth + n
+    → 0 < length (pieces depth l ps n)
+unfolding pieces
+some-piece l ps zero n w low high h = absurd (omega arith)
+some-piece l ps (suc depth) n w low high h = go (ℕ-discrete (at l n .left) 0) (λ m p q k. some-piece l ps depth m w p q k)
+  where
+    go : Dec (at l n .left ≡ 0)
+        → ((m : ℕ) → 1 ≤ m → m ≤ l .used → l .used < depth + m → 0 < length (pieces depth l ps m))
+        → 0 < length (pieces (suc depth) l ps n)
+    go (yes e) below = unfold pieces in rw (eq-eqb (at l n .left) 0 e, length-append) (omega arith)
+    go (no ne) below =
+        let p = w .pair n low high (omega arith) in
+        let b = below (at l n .left) (omega (arith, p .later)) (omega (arith, p .inside)) (omega (arith, p .later)) in
+        unfold pieces in simp (ne-eqb (at l n .left) 0 ne, length-append) (omega arith)
+
 -- ---- its sheets
 
 sheets-both : (ps qs : List Piece) → sheetsOf (ps ++ qs) ≡ sheetsOf ps ++ sheetsOf qs
@@ -90,20 +111,20 @@ unfolding sheetsOf
 sheets-one true p = rw append-nil
 sheets-one false p = refl
 
-sheets-granted : (ps : List Piece) (n : ℕ) → sheetsOf (fromNode ps n) ≡ grantedFrom (map batchOf ps) n
+sheets-granted : (ps : List Piece) (n : ℕ) → sheetsOf (fromNode ps n) ≡ grantedFrom (map asBatch ps) n
 unfolding sheetsOf fromNode grantedFrom
 sheets-granted [] n = refl
 sheets-granted (p ∷ ps) n = rw (sheets-both (fromNode ps n), sheets-granted ps n, sheets-one)
 
 pub sheets-listed : (depth : ℕ) (l : Ledger) (ps : List Piece) (n : ℕ)
-    → sheetsOf (pieces depth l ps n) ≡ listed depth l (map batchOf ps) n
+    → sheetsOf (pieces depth l ps n) ≡ listed depth l (map asBatch ps) n
 unfolding sheetsOf pieces listed
 sheets-listed zero l ps n = refl
 sheets-listed (suc depth) l ps n =
     rw
     (sheets-both (fromNode ps n), sheets-granted ps n)
     (ap
-    (λ (xs : List ℕ). grantedFrom (map batchOf ps) n ++ xs)
+    (λ (xs : List ℕ). grantedFrom (map asBatch ps) n ++ xs)
     (go (childless (at l n)) (pieces depth l ps (at l n .left)) (pieces depth l ps (at l n .left + 1)) (sheets-listed depth l ps (at l n .left)) (sheets-listed depth l ps (at l n .left + 1))))
   where
     go : (t : Bool) (us vs : List Piece) {xs ys : List ℕ}

@@ -11,7 +11,7 @@ use lib.ListN.{length, replicate, length-append}
 use lib.Seq.{set-append-seam, append-snoc}
 use Rattle.sheet_order.specs.declared.Piece.{Piece}
 use Rattle.sheet_order.specs.declared.Pieces.{Pieces}
-use Rattle.sheet_order.specs.Row.{noPiece, row, empty, withPiece, withAll}
+use Rattle.sheet_order.specs.Row.{most, noPiece, row, empty, withPiece, withAll}
 
 -- pieces that stand in two lists, one list after the other
 pub withAll-both : (g : Pieces) (ps qs : List Piece) → withAll g (ps ++ qs) ≡ withAll (withAll g ps) qs
@@ -36,51 +36,51 @@ no-row : row [] ≡ empty
 unfolding row
 no-row = refl
 
-row-more : (ps : List Piece) (p : Piece) → length ps < 32 → withPiece (row ps) p ≡ row (ps ++ p ∷ [])
+row-more : (ps : List Piece) (p : Piece) → length ps < most → withPiece (row ps) p ≡ row (ps ++ p ∷ [])
 unfolding withPiece row
 row-more ps p h =
-    let e : 32 - length ps ≡ suc (32 - (length ps + 1)) = omega arith in
+    let e : most - length ps ≡ suc (most - (length ps + 1)) = omega arith in
     let f : length (ps ++ p ∷ []) ≡ length ps + 1 = length-append ps (p ∷ []) in
-    let g = one-slot (32 - length ps) (32 - (length ps + 1)) e in
-    rw (lt-ltb (length ps) 32 h, f, g, set-append-seam, append-snoc)
+    let g = one-slot (most - length ps) (most - (length ps + 1)) e in
+    rw (lt-ltb (length ps) most h, f, g, set-append-seam, append-snoc)
 
-row-all : (qs ps : List Piece) → length qs + length ps ≤ 32 → withAll (row qs) ps ≡ row (qs ++ ps)
+row-all : (qs ps : List Piece) → length qs + length ps ≤ most → withAll (row qs) ps ≡ row (qs ++ ps)
 unfolding withAll
 row-all qs [] h = rw append-nil
 row-all qs (p ∷ ps) h =
-    let e : length qs < 32 = omega arith in
-    let k : length (qs ++ p ∷ []) + length ps ≤ 32 = omega (arith, length-append qs (p ∷ [])) in
+    let e : length qs < most = omega arith in
+    let k : length (qs ++ p ∷ []) + length ps ≤ most = omega (arith, length-append qs (p ∷ [])) in
     ap (λ (g : Pieces). withAll g ps) (row-more qs p e) ∙ row-all (qs ++ p ∷ []) ps k ∙ ap row (append-snoc qs p ps)
 
 -- ---- without
 
-one-more : (g : Pieces) (p : Piece) → g .count < 32 → withPiece g p .count ≡ g .count + 1
+one-more : (g : Pieces) (p : Piece) → g .count < most → withPiece g p .count ≡ g .count + 1
 unfolding withPiece
-one-more g p h = rw (lt-ltb (g .count) 32 h)
+one-more g p h = rw (lt-ltb (g .count) most h)
 
-no-room : (g : Pieces) (p : Piece) → 32 ≤ g .count → withPiece g p .count ≡ 33
+no-room : (g : Pieces) (p : Piece) → most ≤ g .count → withPiece g p .count ≡ most + 1
 unfolding withPiece
-no-room g p h = rw (le-ltb (g .count) 32 h)
+no-room g p h = rw (le-ltb (g .count) most h)
 
-full : (g : Pieces) (ps : List Piece) → g .count ≤ 33 → 32 < g .count + length ps → withAll g ps .count ≡ 33
+full : (g : Pieces) (ps : List Piece) → g .count ≤ most + 1 → most < g .count + length ps → withAll g ps .count ≡ most + 1
 unfolding withAll
 full g [] h k = omega arith
-full g (p ∷ ps) h k = go (decLt (g .count) 32) (λ a b. full (withPiece g p) ps a b)
+full g (p ∷ ps) h k = go (decLt (g .count) most) (λ a b. full (withPiece g p) ps a b)
   where
-    go : Dec (g .count < 32)
-        → (withPiece g p .count ≤ 33 → 32 < withPiece g p .count + length ps → withAll (withPiece g p) ps .count ≡ 33)
-        → withAll (withPiece g p) ps .count ≡ 33
+    go : Dec (g .count < most)
+        → (withPiece g p .count ≤ most + 1 → most < withPiece g p .count + length ps → withAll (withPiece g p) ps .count ≡ most + 1)
+        → withAll (withPiece g p) ps .count ≡ most + 1
     go (yes d) rest = rest (omega (arith, one-more g p d)) (omega (arith, one-more g p d))
-    go (no d) rest = let e : withPiece g p .count ≡ 33 = no-room g p (omega arith) in rest (omega arith) (omega arith)
+    go (no d) rest = let e : withPiece g p .count ≡ most + 1 = no-room g p (omega arith) in rest (omega arith) (omega arith)
 
 -- ---- either way
 
 pub filled : (ps : List Piece)
-    → cond (leb (withAll empty ps .count) 32) (withAll empty ps) empty ≡ cond (leb (length ps) 32) (row ps) empty
+    → cond (leb (withAll empty ps .count) most) (withAll empty ps) empty ≡ cond (leb (length ps) most) (row ps) empty
 unfolding row
-filled ps = go (decLe (length ps) 32)
+filled ps = go (decLe (length ps) most)
   where
-    go : Dec (length ps ≤ 32)
-        → cond (leb (withAll empty ps .count) 32) (withAll empty ps) empty ≡ cond (leb (length ps) 32) (row ps) empty
+    go : Dec (length ps ≤ most)
+        → cond (leb (withAll empty ps .count) most) (withAll empty ps) empty ≡ cond (leb (length ps) most) (row ps) empty
     go (yes h) = let e : withAll empty ps ≡ row ps = ap (λ (g : Pieces). withAll g ps) (sym no-row) ∙ row-all [] ps (omega arith) in rw (e, row)
-    go (no h) = rw (full empty ps (omega arith) (omega arith), lt-leb (length ps) 32 (omega arith))
+    go (no h) = rw (full empty ps (omega arith) (omega arith), lt-leb (length ps) most (omega arith))

@@ -14,7 +14,7 @@ use Rattle.rules.specs.Table.{at}
 use Rattle.rules.specs.WellFormed.{wellFormed}
 use Rattle.sheet_order.specs.declared.Piece.{Piece}
 use Rattle.sheet_order.specs.declared.Pieces.{Pieces}
-use Rattle.sheet_order.specs.Row.{noPiece, row, empty}
+use Rattle.sheet_order.specs.Row.{most, noPiece, row, empty}
 
 -- ---- what was granted
 
@@ -23,11 +23,12 @@ unfoldable pub grantedTo : List Piece → ℕ → List Piece
 grantedTo ps zero = []
 grantedTo ps (suc k) = getD ps k noPiece ∷ grantedTo ps k
 
-abbrev pub batchOf : Piece → Batch
-batchOf p = record { team = p .team; node = p .node; «from» = p .from; to = p .to }
+-- a piece that was granted, as the rules have it
+abbrev pub asBatch : Piece → Batch
+asBatch p = record { team = p .team; node = p .node; «from» = p .from; to = p .to }
 
 abbrev pub history : Pieces → List Batch
-history g = map batchOf (grantedTo (g .items) (g .count))
+history g = map asBatch (grantedTo (g .items) (g .count))
 
 -- ---- the listing
 
@@ -61,19 +62,23 @@ pieces (suc depth) l ps n =
 abbrev pub rootPieces : Ledger → Pieces → List Piece
 rootPieces l g = pieces (l .used) l (grantedTo (g .items) (g .count)) 1
 
--- a well-formed ledger of at most 31 nodes, and at most 32 grants
+-- the most nodes of a ledger that is read
+abbrev pub mostNodes : ℕ
+mostNodes = 31
+
+-- a well-formed ledger of not too many nodes, and not too many grants
 unfoldable pub small : Ledger → Pieces → Bool
-small l g = wellFormed l && (leb (l .used) 31 && leb (g .count) 32)
+small l g = wellFormed l && (leb (l .used) mostNodes && leb (g .count) most)
 
 -- the root's listing as a row, where all is small enough, and else an empty row
 unfoldable pub inOrder : Ledger → Pieces → Pieces
-inOrder l g = cond (small l g && leb (length (rootPieces l g)) 32) (row (rootPieces l g)) empty
+inOrder l g = cond (small l g && leb (length (rootPieces l g)) most) (row (rootPieces l g)) empty
 
 -- ---- what the code's parts ask: node n is in use, in a well-formed ledger
 
 pub record Readable (l : Ledger) (g : Pieces) (n : ℕ) : Type 0 where
   pub slots : length (l .nodes) ≡ maxNodes
   pub formed : wellFormed l ≡ true
-  pub grants : g .count ≤ 32
+  pub grants : g .count ≤ most
   pub low : 1 ≤ n
   pub high : n ≤ l .used

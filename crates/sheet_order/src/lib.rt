@@ -6,9 +6,12 @@ ghost use Prim.Native.Nat.{_<_, _≤_};
 ghost use lib.Dec.{eqb, leb};
 ghost use lib.ListN.{replicate};
 ghost use Rattle.rules.specs.Listed.{listed};
-ghost use Rattle.sheet_order.specs.Row.{noPiece, empty, withPiece, withAll, told};
+ghost use Rattle.sheet_order.specs.Row.{most, noPiece, empty, withPiece, withAll, told};
 ghost use Rattle.sheet_order.specs.Order.{Readable, history, sheetsOf, fromNode, grantedTo, pieces, inOrder};
 use rules::Ledger;
+
+// The most nodes of a ledger that is small enough: each call of `with_node` inside another holds a ledger of its own.
+const NODES: u32 = 31;
 
 // The sheets from..to of a node, granted to a team; unclaimed ones where the team is 0.
 pub struct Piece {
@@ -18,10 +21,10 @@ pub struct Piece {
     pub to: u32,
 }
 
-// A row of pieces, at most 32. A count of 33 says that there were more.
+// A row of pieces. A count of one past the most says that there were more.
 pub struct Pieces {
-    pub count: u32,
-    pub items: [Piece; 32],
+    pub count: usize,
+    pub items: [Piece; Pieces::MOST],
 }
 
 fn no_piece() -> Piece
@@ -35,13 +38,16 @@ fn no_piece() -> Piece
     }
 }
 
-fn no_items() -> [Piece; 32]
-    ensures { λ r. ⌜ r ≡ replicate 32 noPiece ⌝ }
+fn no_items() -> [Piece; Pieces::MOST]
+    ensures { λ r. ⌜ r ≡ replicate most noPiece ⌝ }
 {
-    [no_piece(); 32]
+    [no_piece(); Pieces::MOST]
 }
 
 impl Pieces {
+    // The most pieces of a row.
+    pub const MOST: usize = 32;
+
     pub fn none() -> Pieces
         ensures { λ r. ⌜ r ≡ empty ⌝ }
     {
@@ -57,13 +63,13 @@ impl Pieces {
         ensures { λ r. ⌜ r ≡ withPiece self p ⌝ }
     {
         let mut row = self;
-        if row.count < 32 {
-            let slot = row.count as usize;
+        if row.count < Pieces::MOST {
+            let slot = row.count;
             row.items[slot] = p;
             row.count = row.count + 1;
             return row;
         }
-        row.count = 33;
+        row.count = Pieces::MOST + 1;
         row
     }
 }
@@ -77,14 +83,13 @@ fn with_own(row: Pieces, p: Piece, n: u32) -> Pieces
 
 // What was granted from node n, in the order in which it was granted, at the row's end.
 fn with_granted(row: Pieces, granted: Pieces, n: u32) -> Pieces
-    requires { ⌜ granted .count ≤ 32 ⌝ }
+    requires { ⌜ granted .count ≤ most ⌝ }
     ensures { λ r. ⌜ r ≡ withAll row (fromNode (grantedTo (granted .items) (granted .count)) n) ⌝ }
 {
     let mut out = row;
-    let mut i: u32 = 0;
+    let mut i = 0;
     while i < granted.count {
-        let slot = i as usize;
-        let p = granted.items[slot];
+        let p = granted.items[i];
         out = with_own(out, p, n);
         i += 1;
     }
@@ -119,18 +124,22 @@ fn with_node(row: Pieces, depth: u32, l: Ledger, granted: Pieces, n: u32) -> Pie
 
 // A row that found no room for a piece is none.
 fn settled(row: Pieces) -> Pieces
-    ensures { λ r. ⌜ r ≡ cond (leb (row .count) 32) row empty ⌝ }
+    ensures { λ r. ⌜ r ≡ cond (leb (row .count) most) row empty ⌝ }
 {
-    if row.count <= 32 { row } else { Pieces::none() }
+    if row.count <= Pieces::MOST {
+        row
+    } else {
+        Pieces::none()
+    }
 }
 
 // The root's listing, where `granted` is what was granted so far, oldest first. The row is empty, and so refused, where the ledger is not
-// well formed or has over 31 nodes, where over 32 pieces were granted, or where the listing has over 32 pieces.
+// well formed or has over 31 nodes, and where over 32 pieces were granted or make the listing.
 pub fn in_order(l: Ledger, granted: Pieces) -> Pieces
     ensures { λ r. ⌜ r ≡ inOrder l granted ⌝ }
     ensures { λ r. ⌜ (0 < r .count → sheetsOf (told r) ≡ listed (l .used) l (history granted) 1) ⌝ }
 {
-    let small = (l.used <= 31) & (granted.count <= 32);
+    let small = (l.used <= NODES) & (granted.count <= Pieces::MOST);
     if ledger::well_formed(l) & small {
         return settled(with_node(Pieces::none(), l.used, l, granted, 1));
     }

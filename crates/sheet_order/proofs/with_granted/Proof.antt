@@ -1,24 +1,22 @@
+-- The invariant: the row ends in what was granted from the node, of the first i grants.
 use borrow.Author.Needs.{needs}
 use native.Mathlib.Omega.{arith}
 use mathlib.Core.Path.{_≡_}
 use Prim.Native.Nat.{_-_, _≤_}
-use Rattle.sheet_order.specs.Row.{withAll}
+use Rattle.sheet_order.specs.Row.{most, withAll}
 use Rattle.sheet_order.specs.Order.{grantedTo, fromNode}
 use Rattle.sheet_order.proofs.Order.{granted-none, granted-more}
 use Rattle.sheet_order.proofs.with_granted.Statement.{statement}
 use Rattle.sheet_order.proofs.with_granted.Tie as tie
 
 abbrev Inv-loop : tie.InvT-loop
-Inv-loop n granted out₀ i₀ out i = (i ≤ granted .count) × (out ≡ withAll out₀ (fromNode (grantedTo (granted .items) i) n)) × (granted .count ≤ 32)
+Inv-loop n granted out₀ i₀ out i = (i ≤ granted .count) × (out ≡ withAll out₀ (fromNode (grantedTo (granted .items) i) n)) × (granted .count ≤ most)
 
 abbrev μ-loop : tie.MeasureT-loop
 μ-loop n granted out₀ i₀ out i = granted .count - i
 
 loop-holds : tie.Need-loop-holds Inv-loop μ-loop
 loop-holds c = (omega arith, granted-none (c .args .row) (c .args .t2 .items) (c .args .n), omega arith)
-
-cast-slot : tie.Need-cast-slot Inv-loop μ-loop
-cast-slot c = search needs
 
 mul-p : tie.Need-mul-p Inv-loop μ-loop
 mul-p c = search needs
@@ -54,7 +52,6 @@ with-granted-spec =
     Inv-loop
     μ-loop
     loop-holds
-    cast-slot
     mul-p
     element-copy-out-p
     with-own-requires

@@ -1,3 +1,4 @@
+-- The test is the definition's.
 use borrow.Author.Tests.{eq-eqb, ne-eqb}
 use Rattle.sheet_order.proofs.Row.{withAll-one, withAll-none}
 use borrow.Author.Needs.{needs}

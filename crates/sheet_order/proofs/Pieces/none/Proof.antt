@@ -1,3 +1,4 @@
+-- A row without pieces.
 use borrow.Author.Needs.{needs}
 use Rattle.sheet_order.proofs.Pieces.none.Statement.{statement}
 use Rattle.sheet_order.proofs.Pieces.none.Tie as tie
