@@ -52,7 +52,6 @@ enum {
     NO_ROOM_TO_STEAL = 14,
     NOT_NEGATIVE = 15,
     HAS_CHILDREN = 16,
-    NO_SLOTS = 17,
     OPENING_BAD = 20,
     TEXT_LONG = 21,
     BYTE_BAD = 22,
@@ -464,8 +463,6 @@ static struct answer expand(int number)
     /* The late splitter is told where the children are, as the first one was. */
     if (node->left != 0)
         return (struct answer){.code = HAS_CHILDREN, .from = middle, .left = node->left};
-    if (run.nodes - used < 2)
-        return refuse(NO_SLOTS);
     node->left = used + 1;
     table[used + 1] = fresh_node(position, middle);
     table[used + 2] = fresh_node(middle, node->until);

@@ -1,23 +1,16 @@
 -- What the ledger's code needs of the definitions, over plain variables.
 use mathlib.Core.Path.{_≡_, refl, sym, ap, ap₂, _∙_}
-use mathlib.Core.Bool.{Bool, true, false, cond, _&&_, and-false, false-and}
+use mathlib.Core.Bool.{Bool, true, _&&_, and-false, false-and}
 use mathlib.Core.List.{List, map, _∷_}
 use Prim.Native.Nat.{ℕ, zero, suc, _+_, _-_, _≤_, _<_}
 use native.Mathlib.Numerals.{add-one}
 use native.Mathlib.Decide.{decLt, decLe}
 use native.Mathlib.Omega.{arith}
-use lib.Dec.{eqb}
 use lib.ListN.{length, length-map, set, replicate}
 use borrow.Author.Tests.{eq-eqb, le-ltb}
 use Rattle.numbers.specs.Fields.{natOf}
 use Rattle.rules.specs.declared.Node.{Node}
 use Rattle.rules.specs.declared.Ledger.{Ledger}
-use Rattle.rules.specs.declared.View.{View}
-use Rattle.rules.specs.declared.Request.{Request}
-use Rattle.rules.specs.declared.Change.the-variants.{Keep}
-use Rattle.rules.specs.Refusals.{refusal}
-use Rattle.rules.specs.Requests.{refusing, outcome, owning, advancing, marking, expanding, looking, granted, decided}
-use Rattle.ledger.specs.Pairs.{pairOf}
 use Rattle.rules.specs.declared.Opening.{Opening}
 use Rattle.rules.specs.Limits.{opens}
 use Rattle.rules.proofs.Facts.{both, facts}
@@ -121,21 +114,3 @@ child-slots n used x slot node s small same low is = go (decLt 0 (x .left)) (dec
         let one : x .left - 1 + 1 ≡ x .left = omega arith in
         let a : slot (x .left - 1) ≡ node (x .left) = sym (same (x .left - 1)) ∙ ap node one in
         rw (e, a, ← same (x .left))
-
--- a split takes no pair but the view's
-pub pair-small : (v : View) (r : Request) → pairOf (decided v r .change) ≤ v .pair
-unfolding decided
-pair-small v r = refused-or (eqb (refusal v r) 0)
-  where
-    of-kind : (a b c d : Bool)
-        → pairOf (cond a (owning v r) (cond b (advancing v r) (cond c (marking v r) (cond d (expanding v) (looking v)))) .change) ≤ v .pair
-    of-kind true b c d = unfold owning in (omega arith)
-    of-kind false true c d = unfold advancing in (omega arith)
-    of-kind false false true d = unfold marking in (omega arith)
-    of-kind false false false true = unfold expanding in (omega arith)
-    of-kind false false false false = unfold looking in (omega arith)
-
-    refused-or : (b : Bool) → pairOf (cond b (granted v r) (outcome (refusing v (refusal v r)) Keep) .change) ≤ v .pair
-    refused-or true =
-        unfold granted in (of-kind (eqb (natOf (r .kind)) 1) (eqb (natOf (r .kind)) 2) (eqb (natOf (r .kind)) 3) (eqb (natOf (r .kind)) 4))
-    refused-or false = omega arith

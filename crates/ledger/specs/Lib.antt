@@ -1,2 +1,2 @@
 -- What the ledger's code needs beside the rules.
-pub mod Pairs
+pub mod Slots

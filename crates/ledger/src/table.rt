@@ -4,7 +4,7 @@ ghost use Prim.Native.Nat.{_+_, _≤_};
 ghost use Rattle.rules.specs.Table.{at, put, grown, stolenIn};
 ghost use Rattle.rules.specs.Requests.{view, changed};
 ghost use Rattle.rules.specs.Count.{unclaimed};
-ghost use Rattle.ledger.specs.Pairs.{pairOf};
+ghost use Rattle.ledger.specs.Slots.{IsSlot, Stores};
 use rules::Change;
 use rules::Ledger;
 use rules::Node;
@@ -22,17 +22,15 @@ fn node_at(l: Ledger, n: u32) -> Node
     }
 }
 
+// A request that is granted stores into slots of the table, so none is tested here.
 fn with_node(l: Ledger, n: u32, x: Node) -> Ledger
+    requires { ⌜ IsSlot n ⌝ }
     ensures { λ m. ⌜ m ≡ put l n x ⌝ }
 {
-    let slot = numbers::less_by(n, 1) as usize;
-    if slot < Opening::NODES {
-        let mut m = l;
-        m.nodes[slot] = x;
-        m
-    } else {
-        l
-    }
+    let slot = (n - 1) as usize;
+    let mut m = l;
+    m.nodes[slot] = x;
+    m
 }
 
 fn with_pair_used(l: Ledger) -> Ledger
@@ -87,7 +85,7 @@ pub(crate) fn view_of(l: Ledger, n: u32) -> View
 }
 
 fn split_at(l: Ledger, n: u32, x: Node, pair: u32, a: Node, b: Node) -> Ledger
-    requires { ⌜ (l .used ≤ 1023) × (pair ≤ 1024) ⌝ }
+    requires { ⌜ (l .used ≤ 1023) × (IsSlot n × IsSlot pair × IsSlot (pair + 1)) ⌝ }
     ensures { λ m. ⌜ m ≡ grown (put (put (put l n x) pair a) (pair + 1) b) ⌝ }
 {
     let one = with_node(l, n, x);
@@ -97,7 +95,7 @@ fn split_at(l: Ledger, n: u32, x: Node, pair: u32, a: Node, b: Node) -> Ledger
 }
 
 pub(crate) fn changed_by(l: Ledger, n: u32, c: Change) -> Ledger
-    requires { ⌜ (l .used ≤ 1023) × (pairOf c ≤ 1024) ⌝ }
+    requires { ⌜ (l .used ≤ 1023) × Stores n c ⌝ }
     ensures { λ m. ⌜ m ≡ changed l n c ⌝ }
 {
     match c {

@@ -155,8 +155,8 @@ fn slots() {
     l = ask::tested(14, 0, l, ask::MARK, 2, 2, 3, 0);
     l = ask::show(l, ask::EXPAND, 1, 3, 0, 0);
     l = ask::tested(14, 0, l, ask::MARK, 2, 2, 3, 0);
-    l = ask::tested(15, 17, l, ask::EXPAND, 1, 2, 0, 0);
-    l = ask::tested(16, 17, l, ask::EXPAND, 1, 3, 0, 0);
+    l = ask::tested(15, 0, l, ask::EXPAND, 1, 2, 0, 0);
+    l = ask::tested(16, 0, l, ask::EXPAND, 1, 3, 0, 0);
     ask::tested(9, 14, l, ask::MARK, 2, 1, -4, 0);
 }
 

@@ -77,8 +77,8 @@ fn expand(nodes: u32, used: u32, x: Node) {
     print::text(b"\n");
 }
 
-// A well-formed ledger keeps two slots for each STOLEN node and so never answers 17: one node is asked by itself here. The two slots suffice;
-// 16 comes before 17, and 15 before both.
+// One node is asked by itself here, in tables too small as well: expand does not ask for room, since a well-formed ledger keeps two slots for
+// each STOLEN node. 15 comes before 16.
 fn expands() {
     expand(3, 3, ask::node(0, 8, -4, 1, 0));
     expand(4, 3, ask::node(0, 8, -4, 1, 0));

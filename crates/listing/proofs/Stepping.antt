@@ -180,9 +180,7 @@ module _ (l : Ledger) (q : Request) where
       used = let f = asked-facts v q e .0 .node in unfold view in (record { low = f .low; high = f .high })
 
       was : natOf (q .kind) ≡ 4 → Stolen (at l n)
-      was k =
-          let f = expand-facts v (unfold kindCode in (rw k at (asked-facts v q e .1))) in
-          unfold view in (record { mark = f .mark; leaf = f .leaf })
+      was k = unfold kindCode view in (expand-facts (at l n) (rw k at (asked-facts v q e .1)))
 
       go : Kind (natOf (q .kind)) → Changes l n (granted v q .change)
       go (own k) = rw k (unfold owning in (stores used))

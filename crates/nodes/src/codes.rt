@@ -2,7 +2,7 @@
 ghost use mathlib.Core.Path.{_≡_};
 ghost use Rattle.numbers.specs.Fields.{within, isNat, sameNumber};
 ghost use Rattle.rules.specs.Limits.{maxAmount};
-ghost use Rattle.rules.specs.Refusals.{noRoom, noPair, ownCode, advanceCode, markCode, expandCode, kindCode, refusal};
+ghost use Rattle.rules.specs.Refusals.{noRoom, ownCode, advanceCode, markCode, expandCode, kindCode, refusal};
 use rules::Node;
 use rules::Request;
 use rules::View;
@@ -50,12 +50,6 @@ fn no_room(v: View) -> bool
     (v.room as u64) < (v.used as u64) + 2 * (v.stolen as u64) + 2
 }
 
-fn no_pair(v: View) -> bool
-    ensures { λ b. ⌜ b ≡ noPair v ⌝ }
-{
-    (v.room as u64) < (v.used as u64) + 2
-}
-
 fn own_code(x: Node) -> u32
     ensures { λ c. ⌜ c ≡ ownCode x ⌝ }
 {
@@ -85,12 +79,10 @@ fn mark_code(v: View, r: Request) -> u32
     numbers::given_code(crate::is_unowned(x), 11, c12)
 }
 
-fn expand_code(v: View) -> u32
-    ensures { λ c. ⌜ c ≡ expandCode v ⌝ }
+fn expand_code(x: Node) -> u32
+    ensures { λ c. ⌜ c ≡ expandCode x ⌝ }
 {
-    let x = v.node;
-    let c17 = numbers::given_code(no_pair(v), 17, 0);
-    let c16 = numbers::given_code(!crate::is_childless(x), 16, c17);
+    let c16 = numbers::given_code(!crate::is_childless(x), 16, 0);
     numbers::given_code(!crate::is_marked(x), 15, c16)
 }
 
@@ -103,7 +95,7 @@ fn kind_code(v: View, r: Request) -> u32
         1 => own_code(x),
         2 => advance_code(x, r),
         3 => mark_code(v, r),
-        4 => expand_code(v),
+        4 => expand_code(x),
         _ => 0,
     }
 }

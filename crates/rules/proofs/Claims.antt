@@ -16,8 +16,9 @@ use Rattle.rules.specs.Requests.{refused, ranged, split, batchEnd, nodeI
 use Rattle.rules.specs.Sheet40.{IsGranted, ClaimGranted, MarkGranted, SplitGranted}
 use Rattle.rules.specs.Table.{at, put, stolenIn}
 use Rattle.rules.specs.WellFormed.{wellFormed}
-use Rattle.rules.proofs.Granted.{Asked, Advancing, Marking, Expanding, after as splitAt, Answers, refuses, owns, advances, marks, expands, looks, answers}
+use Rattle.rules.proofs.Granted.{Asked, Advancing, Marking, after as splitAt, Answers, refuses, owns, advances, marks, expands, looks, answers}
 use Rattle.rules.proofs.Record.{WF, rules}
+use Rattle.rules.proofs.States.{Stolen}
 
 -- a request that is granted finds the ledger well formed, and so is answered by its own tests
 pub granted-answered : (l : Ledger) (r : Request) → requested l r .answer .code ≡ 0
@@ -45,7 +46,7 @@ pub record Marked (l : Ledger) (r : Request) (a : Answered) : Type 0 where
 
 pub record Parted (l : Ledger) (r : Request) (a : Answered) : Type 0 where
   pub asked : Asked (l .teams) (l .used) r
-  pub facts : Expanding (at l (nodeIn r)) (l .used) (l .room)
+  pub facts : Stolen (at l (nodeIn r))
   pub ledger : a .ledger
       ≡ splitAt l (nodeIn r) (parted (at l (nodeIn r)) (l .used + 1)) (leftPart (at l (nodeIn r))) (rightPart (at l (nodeIn r)))
   pub answer : a .answer ≡ split (l .used + 1) (middle (at l (nodeIn r)))

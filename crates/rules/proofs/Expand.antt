@@ -51,8 +51,9 @@ module _ (l : Ledger) (w : WF l) (n : ℕ) (low : 1 ≤ n) (high : n ≤ l .used
       omega
       (arith, w .loaded, stolen-one (at l n) s, sumBy-ge stolenOf (l .nodes) (n - 1) blank (omega (arith, w .slots, w .used-room, w .room-high)))
 
-  fits : l .used + 2 ≤ length (l .nodes)
-  fits = omega (arith, room-left, w .room-high, w .slots)
+  -- and its two slots are there
+  pub pair-fits : l .used + 2 ≤ length (l .nodes)
+  pair-fits = omega (arith, room-left, w .room-high, w .slots)
 
   abbrev x : Node
   x = at l n
@@ -65,21 +66,21 @@ module _ (l : Ledger) (w : WF l) (n : ℕ) (low : 1 ≤ n) (high : n ≤ l .used
 
   -- slot by slot
   here-is : at next n ≡ y
-  here-is = Split.split-here l n y (leftPart x) (rightPart x) low high fits
+  here-is = Split.split-here l n y (leftPart x) (rightPart x) low high pair-fits
 
   left-is : at next (l .used + 1) ≡ leftPart x
-  left-is = Split.split-left l n y (leftPart x) (rightPart x) low high fits
+  left-is = Split.split-left l n y (leftPart x) (rightPart x) low high pair-fits
 
   right-is : at next (l .used + 1 + 1) ≡ rightPart x
-  right-is = Split.split-right l n y (leftPart x) (rightPart x) low high fits
+  right-is = Split.split-right l n y (leftPart x) (rightPart x) low high pair-fits
 
   other-is : (m : ℕ) → 1 ≤ m → m ≢ n → m ≢ l .used + 1 → m ≢ l .used + 1 + 1 → at next m ≡ at l m
-  other-is = Split.split-other l n y (leftPart x) (rightPart x) low high fits
+  other-is = Split.split-other l n y (leftPart x) (rightPart x) low high pair-fits
 
   sums : (f : Node → ℕ) → f blank ≡ 0 → sumBy f (next .nodes) + f x ≡ sumBy f (l .nodes) + (f y + (f (leftPart x) + f (rightPart x)))
   sums f z =
       omega
-      (arith, Split.split-sum l n y (leftPart x) (rightPart x) low high fits f, ap f (w .blank (l .used + 1) (omega arith)), ap f (w .blank (l .used + 1 + 1) (omega arith)))
+      (arith, Split.split-sum l n y (leftPart x) (rightPart x) low high pair-fits f, ap f (w .blank (l .used + 1) (omega arith)), ap f (w .blank (l .used + 1 + 1) (omega arith)))
 
   kept-range : (m : ℕ) → 1 ≤ m → m ≤ l .used → (at next m .start ≡ at l m .start) × (at next m .until ≡ at l m .until)
   kept-range m p q = go (ℕ-discrete m n)
@@ -203,7 +204,7 @@ module _ (l : Ledger) (w : WF l) (n : ℕ) (low : 1 ≤ n) (high : n ≤ l .used
         teams-high = w .teams-high;
         room-low = w .room-low;
         room-high = w .room-high;
-        slots = Split.split-length l n y (leftPart x) (rightPart x) low high fits ∙ w .slots;
+        slots = Split.split-length l n y (leftPart x) (rightPart x) low high pair-fits ∙ w .slots;
         odd = omega (arith, w .odd);
         used-room = room-left;
         root-start = kept-range 1 (omega arith) (omega arith) .0 ∙ w .root-start;

@@ -22,11 +22,12 @@ use Rattle.rules.specs.Limits.{maxAmount}
 use Rattle.rules.specs.Nodes.{owned, moved, parted, marked, unowned, childless, positionOf, middle, leftPart, rightPart}
 use Rattle.rules.specs.States.{completed}
 use Rattle.rules.specs.Table.{at, put, grown, stolenIn}
-use Rattle.rules.specs.Refusals.{noPair, allTests, ownTests, advanceTests, markTests, expandTests, ownCode, advanceCode, markCode, expandCode, kindCode, refusal}
+use Rattle.rules.specs.Refusals.{allTests, ownTests, advanceTests, markTests, expandTests, ownCode, advanceCode, markCode, expandCode, kindCode, refusal}
 use Rattle.rules.specs.Requests.{refusing, ranged, split, seen, outcome, owning, batchEnd, advancing, marking, expanding, looking, granted, decided, view, changed, nodeIn, answered}
 use Rattle.rules.specs.Tests.{_when_}
 use Rattle.rules.proofs.Facts.{ltb-f}
 use Rattle.rules.proofs.Tests.{lacks, passed-to, passed, Kind, own, advance, mark, expand, look, kind-of}
+use Rattle.rules.proofs.States.{Stolen}
 
 -- ---- the facts of each kind
 
@@ -62,11 +63,6 @@ pub record Marking (x : Node) (r : Request) (load room : ℕ) : Type 0 where
   pub here : Here x r
   pub fits : load + 2 ≤ room
 
-pub record Expanding (x : Node) (used room : ℕ) : Type 0 where
-  pub mark : marked x ≡ true
-  pub leaf : x .left ≡ 0
-  pub fits : used + 2 ≤ room
-
 -- ---- the answer, and the ledger after it
 
 abbrev pub after : Ledger → ℕ → Node → Node → Node → Ledger
@@ -91,7 +87,7 @@ pub data Answers (l : Ledger) (r : Request) : Answered → Type 0 where
         ledger = put l (nodeIn r) (moved (at l (nodeIn r)) (negsuc (positionOf (at l (nodeIn r)))));
         answer = ranged (positionOf (at l (nodeIn r))) (at l (nodeIn r) .until);
       })
-  expands : natOf (r .kind) ≡ 4 → Asked (l .teams) (l .used) r → Expanding (at l (nodeIn r)) (l .used) (l .room)
+  expands : natOf (r .kind) ≡ 4 → Asked (l .teams) (l .used) r → Stolen (at l (nodeIn r))
       → Answers l r (record {
         ledger =
             after l (nodeIn r) (parted (at l (nodeIn r)) (l .used + 1)) (leftPart (at l (nodeIn r))) (rightPart (at l (nodeIn r)));
@@ -156,14 +152,13 @@ mark-facts v r team e =
       fits = omega (arith, simp ltb-f at (t .1 .1 .1 .1 .1 .0));
     }
 
-pub expand-facts : (v : View) → expandCode v ≡ 0 → Expanding (v .node) (v .used) (v .room)
+pub expand-facts : (x : Node) → expandCode x ≡ 0 → Stolen x
 unfolding expandCode
-expand-facts v e =
-    let t = passed (expandTests v) 0 tt e .0 in
+expand-facts x e =
+    let t = passed (expandTests x) 0 tt e .0 in
     record {
-      mark = not-false (marked (v .node)) (t .0);
-      leaf = eqb-true (v .node .left) 0 (not-false (childless (v .node)) (t .1 .0));
-      fits = omega (arith, simp ltb-f at (t .1 .1 .0));
+      mark = not-false (marked x) (t .0);
+      leaf = eqb-true (x .left) 0 (not-false (childless x) (t .1 .0));
     }
 
 -- a code that is not of the tests of all is of the kind's own
@@ -187,22 +182,20 @@ asked-facts v r e = asked-to 0 v r tt e
 
 -- 16 is given to no request but an expand, and of no node but one that has children
 module _ (v : View) (r : Request) where
-  late-expand : expandCode v ≡ 16 → 0 < v .node .left
+  late-expand : (x : Node) → expandCode x ≡ 16 → 0 < x .left
   unfolding expandCode
-  late-expand h = go (childless (v .node)) refl
+  late-expand x h = go (childless x) refl
     where
-      go : (b : Bool) → childless (v .node) ≡ b → 0 < v .node .left
-      go true e =
-          let none = passed-to 16 ((15 when not (marked (v .node))) ∷ (17 when noPair v) ∷ []) 0 tt (rw e at h) .1 in
-          absurd (omega arith)
-      go false e = let some = eqb-false (v .node .left) 0 e in omega arith
+      go : (b : Bool) → childless x ≡ b → 0 < x .left
+      go true e = let none = passed-to 16 ((15 when not (marked x)) ∷ []) 0 tt (rw e at h) .1 in absurd (omega arith)
+      go false e = let some = eqb-false (x .left) 0 e in omega arith
 
   late-kind : kindCode v r ≡ 16 → Kind (natOf (r .kind)) → 0 < v .node .left
   unfolding kindCode ownCode advanceCode markCode
   late-kind h (own e) = let none = passed-to 16 (ownTests (v .node)) 0 tt (rw e at h) .1 in absurd (omega arith)
   late-kind h (advance e) = let none = passed-to 16 (advanceTests (v .node) r) 0 tt (rw e at h) .1 in absurd (omega arith)
   late-kind h (mark e) = let none = passed-to 16 (markTests v r) 0 tt (rw e at h) .1 in absurd (omega arith)
-  late-kind h (expand e) = late-expand (rw e at h)
+  late-kind h (expand e) = late-expand (v .node) (rw e at h)
   late-kind h (look e) = let none = rw e at h in absurd (omega arith)
 
   pub record Late : Type 0 where
@@ -267,7 +260,7 @@ module _ (l : Ledger) (r : Request) where
 
     given-expand : natOf (r .kind) ≡ 4 → Answers l r given
     unfolding given granted changed expanding view
-    given-expand e = let f = expand-facts v (unfold kindCode in (rw e at code)) in rw e (expands e asked f)
+    given-expand e = let f = expand-facts (v .node) (unfold kindCode in (rw e at code)) in rw e (expands e asked f)
 
     given-look : natOf (r .kind) ≡ 5 → Answers l r given
     unfolding given granted changed looking view

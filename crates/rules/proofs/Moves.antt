@@ -18,12 +18,13 @@ use Rattle.rules.specs.Nodes.{owned, moved, parted, marked, positionOf, 
 use Rattle.rules.specs.Requests.{batchEnd, nodeIn}
 use Rattle.rules.specs.States.{AVAILABLE, OWNED, COMPLETED, STOLEN, EXPANDED, completed, stateOf}
 use Rattle.rules.specs.Table.{at, put, stolenIn}
-use Rattle.rules.proofs.Granted.{Asked, Owning, Advancing, Marking, Expanding, Answers, refuses, owns, advances, marks, expands, looks}
+use Rattle.rules.proofs.Granted.{Asked, Owning, Advancing, Marking, Answers, refuses, owns, advances, marks, expands, looks}
 use Rattle.rules.proofs.Keeps.{no-children}
 use Rattle.rules.proofs.Nodes.{at-same, at-other}
 use Rattle.rules.proofs.Record.{WF}
 use Rattle.rules.proofs.Split.{split-here, split-other}
-use Rattle.rules.proofs.States.{available-is, owned-is, completed-is, stolen-is, expanded-is}
+use Rattle.rules.proofs.States.{available-is, owned-is, completed-is, stolen-is, expanded-is, Stolen}
+use Rattle.rules.proofs.Expand.{pair-fits}
 
 -- a state after a request of a kind, from the state before
 abbrev pub Leads : Node → ℕ → Node → Type 0
@@ -91,7 +92,7 @@ module _ (l : Ledger) (w : WF l) (r : Request) (asked : Asked (l .teams) (l .use
       (stolen-is y (record { mark = refl; leaf = no-children l w r asked (m .here .plain) }))
       refl
 
-  expand-leads : Expanding x (l .used) (l .room) → Leads x 4 (parted x (l .used + 1))
+  expand-leads : Stolen x → Leads x 4 (parted x (l .used + 1))
   unfolding leads isIn
   expand-leads e =
       let y = parted x (l .used + 1) in
@@ -124,7 +125,7 @@ moves {l} {r} w (marks k q f) =
 moves {l} {r} w (expands k q f) =
     inr
     (rw
-    (k, split-here l (nodeIn r) _ (leftPart (at l (nodeIn r))) (rightPart (at l (nodeIn r))) (q .node .low) (q .node .high) (omega (arith, f .fits, w .room-high, w .slots)))
+    (k, split-here l (nodeIn r) _ (leftPart (at l (nodeIn r))) (rightPart (at l (nodeIn r))) (q .node .low) (q .node .high) (pair-fits l w (nodeIn r) (q .node .low) (q .node .high) f))
     (expand-leads l w r q f))
 moves w (looks k q) = inl refl
 
@@ -135,7 +136,7 @@ others {l} {r} w (owns k q f) m p u ne = at-other l (nodeIn r) _ (q .node .low) 
 others {l} {r} w (advances k q f) m p u ne = at-other l (nodeIn r) _ (q .node .low) m p ne
 others {l} {r} w (marks k q f) m p u ne = at-other l (nodeIn r) _ (q .node .low) m p ne
 others {l} {r} w (expands k q f) m p u ne =
-    split-other l (nodeIn r) _ _ _ (q .node .low) (q .node .high) (omega (arith, f .fits, w .room-high, w .slots)) m p ne (omega arith) (omega arith)
+    split-other l (nodeIn r) _ _ _ (q .node .low) (q .node .high) (pair-fits l w (nodeIn r) (q .node .low) (q .node .high) f) m p ne (omega arith) (omega arith)
 others w (looks k q) m p u ne = refl
 
 -- no state is one of none

@@ -23,7 +23,7 @@ use Rattle.rules.specs.Opening.{opened, ledgerOf}
 use Rattle.rules.specs.Requests.{batchEnd, nodeIn, requested}
 use Rattle.rules.specs.Sheet40.{Inside, Gives, NeverGrantedTwice, GivenOnceAtMost}
 use Rattle.rules.specs.Table.{at, put, sumBy}
-use Rattle.rules.proofs.Granted.{Asked, Advancing, Expanding, after as splitAt, Answers, refuses, owns, advances, marks, expands, looks, answers}
+use Rattle.rules.proofs.Granted.{Asked, Advancing, after as splitAt, Answers, refuses, owns, advances, marks, expands, looks, answers}
 use Rattle.rules.proofs.Keeps.{no-children, requested-wf}
 use Rattle.rules.proofs.Moves.{fits}
 use Rattle.rules.proofs.Onward.{requested-later, run-later}
@@ -33,6 +33,8 @@ use Rattle.rules.proofs.Sheets.{begun}
 use Rattle.rules.proofs.Claims.{Claimed, is-claimed}
 use Rattle.rules.proofs.Split.{split-sum}
 use Rattle.rules.proofs.Sums.{sumBy-put}
+use Rattle.rules.proofs.States.{Stolen}
+use Rattle.rules.proofs.Expand.{pair-fits}
 
 -- the sheet s is unclaimed in the node x
 record Free (s : ℕ) (x : Node) : Type 0 where
@@ -131,7 +133,7 @@ module _ (s : ℕ) (l : Ledger) (r : Request) (w : WF l) (asked : Asked (l .team
       (λ g. absurd (free-blank s g))
       (λ g h. free-blank s h)
 
-  halves : Expanding x (l .used) (l .room) → freeIn s (leftPart x) + freeIn s (rightPart x) ≤ freeIn s x
+  halves : Stolen x → freeIn s (leftPart x) + freeIn s (rightPart x) ≤ freeIn s x
   unfolding leftPart rightPart middle
   halves f =
       shared
@@ -143,11 +145,11 @@ module _ (s : ℕ) (l : Ledger) (r : Request) (w : WF l) (asked : Asked (l .team
       (λ g. record { leaf = f .leaf; low = omega (arith, g .low); high = g .high })
       (λ g h. omega (arith, g .high, h .low))
 
-  split-free : Expanding x (l .used) (l .room) → freeAt s (splitAt l n (parted x (l .used + 1)) (leftPart x) (rightPart x)) ≤ freeAt s l
+  split-free : Stolen x → freeAt s (splitAt l n (parted x (l .used + 1)) (leftPart x) (rightPart x)) ≤ freeAt s l
   unfolding freeAt
   split-free f =
       omega
-      (arith, halves f, is-none s (parted x (l .used + 1)) (λ g. let e = g .leaf in omega arith), split-sum l n (parted x (l .used + 1)) (leftPart x) (rightPart x) (asked .node .low) (asked .node .high) (omega (arith, f .fits, w .room-high, w .slots)) (freeIn s))
+      (arith, halves f, is-none s (parted x (l .used + 1)) (λ g. let e = g .leaf in omega arith), split-sum l n (parted x (l .used + 1)) (leftPart x) (rightPart x) (asked .node .low) (asked .node .high) (pair-fits l w n (asked .node .low) (asked .node .high) f) (freeIn s))
 
 answers-free : {l : Ledger} {r : Request} {a : Answered} (s : ℕ) → WF l → Answers l r a → freeAt s (a .ledger) ≤ freeAt s l
 unfolding freeIn

@@ -21,6 +21,7 @@ use Rattle.rules.proofs.Moves.{fits, others}
 use Rattle.rules.proofs.Nodes.{at-same}
 use Rattle.rules.proofs.Record.{WF}
 use Rattle.rules.proofs.Split.{split-here}
+use Rattle.rules.proofs.Expand.{pair-fits}
 
 pub record Onward (x y : Node) : Type 0 where
   pub start : y .start ≡ x .start
@@ -73,7 +74,7 @@ here-onward {l} {r} w (marks k q f) =
     })
 here-onward {l} {r} w (expands k q f) =
     rw
-    (split-here l (nodeIn r) (parted (at l (nodeIn r)) (l .used + 1)) (leftPart (at l (nodeIn r))) (rightPart (at l (nodeIn r))) (q .node .low) (q .node .high) (omega (arith, f .fits, w .room-high, w .slots)))
+    (split-here l (nodeIn r) (parted (at l (nodeIn r)) (l .used + 1)) (leftPart (at l (nodeIn r))) (rightPart (at l (nodeIn r))) (q .node .low) (q .node .high) (pair-fits l w (nodeIn r) (q .node .low) (q .node .high) f))
     (record { start = refl; until = refl; forward = omega arith; stands = λ m. refl })
 here-onward {l} {r} w (looks k q) = stay (at l (nodeIn r))
 

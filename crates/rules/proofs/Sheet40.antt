@@ -28,6 +28,7 @@ use Rattle.rules.proofs.Onward.{Onward, requested-later, run-later}
 use Rattle.rules.proofs.Record.{WF}
 use Rattle.rules.proofs.Split.{split-left, split-right}
 use Rattle.rules.proofs.Claims.{Claimed, Parted, is-claimed, is-marked, is-parted, granted-wf}
+use Rattle.rules.proofs.Expand.{pair-fits}
 
 -- ---- the first step
 
@@ -74,7 +75,7 @@ split-starts-at-mark l r slots g =
     let x = at l (nodeIn r) in
     let low = p .asked .node .low in
     let high = p .asked .node .high in
-    let room : l .used + 2 ≤ length (l .nodes) = omega (arith, p .facts .fits, w .room-high, w .slots) in
+    let room : l .used + 2 ≤ length (l .nodes) = pair-fits l w (nodeIn r) low high (p .facts) in
     rw
     (p .ledger, p .answer, split-left l (nodeIn r) (parted x (l .used + 1)) (leftPart x) (rightPart x) low high room, split-right l (nodeIn r) (parted x (l .used + 1)) (leftPart x) (rightPart x) low high room)
     (record {

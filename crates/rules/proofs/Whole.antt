@@ -26,6 +26,7 @@ use Rattle.rules.proofs.Record.{WF}
 use Rattle.rules.proofs.Split.{split-here, split-left, split-right, split-other}
 use Rattle.rules.proofs.Store.{Swap}
 use Rattle.rules.proofs.Tree.{InUse, Tree, leaf, fork, SameChildren, regrow}
+use Rattle.rules.proofs.Expand.{pair-fits}
 
 pub record Whole (l : Ledger) (bs : List Batch) : Type 0 where
   pub wf : WF l
@@ -235,7 +236,7 @@ answers-whole {l} {bs} {r} h good (marks k q f) =
 answers-whole {l} {bs} {r} h good (expands k q f) =
     rw
     (no-batch r _ (λ e. absurd (omega arith)))
-    (split-whole l bs (nodeIn r) h (q .node .low) (q .node .high) (f .leaf) (omega (arith, f .fits, h .wf .room-high, h .wf .slots)) good)
+    (split-whole l bs (nodeIn r) h (q .node .low) (q .node .high) (f .leaf) (pair-fits l (h .wf) (nodeIn r) (q .node .low) (q .node .high) f) good)
 answers-whole {l} {bs} {r} h good (looks k q) = rw (no-batch r _ (λ e. absurd (omega arith))) h
 
 pub requested-whole : (l : Ledger) (bs : List Batch) (r : Request) → Whole l bs

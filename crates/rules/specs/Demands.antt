@@ -49,11 +49,15 @@ LateSplitterTold =
     (l : Ledger) (r : Request) → length (l .nodes) ≡ maxNodes → wellFormed l ≡ true → requested l r .answer .code ≡ 16
     → Told l (nodeIn r) (requested l r .answer)
 
--- A STOLEN node of a well-formed ledger has a pair of slots to take, so a split that was begun can always be made.
+-- A pair to take: the next two slots are within the room.
+abbrev pub HasPair : Ledger → Type 0
+HasPair l = l .used + 2 ≤ l .room
+
+-- A STOLEN node of a well-formed ledger has a pair to take, so a split needs no test for room.
 abbrev pub RoomForEverySplit : Type 0
 RoomForEverySplit =
     (l : Ledger) (n : ℕ) → length (l .nodes) ≡ maxNodes → wellFormed l ≡ true → 1 ≤ n → n ≤ l .used → stateOf (at l n) ≡ STOLEN
-    → l .used + 2 ≤ l .room
+    → HasPair l
 
 -- An OWNED node has a sheet left, so a team that seeks does not ask how many: it can steal the last one too.
 abbrev pub OwnedHasSome : Type 0

@@ -1,4 +1,4 @@
--- The table of codes: what each request tests, in its order; 13 is withdrawn. Code 1, the ledger is not well formed, comes before all of these (Requests.antt).
+-- The table of codes: what each request tests, in its order; 13 and 17 are withdrawn. Code 1, the ledger is not well formed, comes before all of these (Requests.antt).
 use Prim.Native.Nat.{ℕ, _+_, _*_}
 use mathlib.Core.Bool.{Bool, not}
 use mathlib.Core.List.{List, [], _∷_}
@@ -47,12 +47,9 @@ markTests v r =
     ∷ (14 when noRoom v)
     ∷ []
 
--- fewer than two unused slots
-abbrev pub noPair : View → Bool
-noPair v = ltb (v .room) (v .used + 2)
-
-abbrev pub expandTests : View → List Test
-expandTests v = (15 when not (marked (v .node))) ∷ (16 when not (childless (v .node))) ∷ (17 when noPair v) ∷ []
+-- no test for room: the mark kept it (`RoomForEverySplit`)
+abbrev pub expandTests : Node → List Test
+expandTests x = (15 when not (marked x)) ∷ (16 when not (childless x)) ∷ []
 
 unfoldable pub ownCode : Node → ℕ
 ownCode x = first (ownTests x) 0
@@ -63,11 +60,11 @@ advanceCode x r = first (advanceTests x r) 0
 unfoldable pub markCode : View → Request → ℕ
 markCode v r = first (markTests v r) 0
 
-unfoldable pub expandCode : View → ℕ
-expandCode v = first (expandTests v) 0
+unfoldable pub expandCode : Node → ℕ
+expandCode x = first (expandTests x) 0
 
 unfoldable pub kindCode : View → Request → ℕ
-kindCode v r = byKind (natOf (r .kind)) (ownCode (v .node)) (advanceCode (v .node) r) (markCode v r) (expandCode v) 0
+kindCode v r = byKind (natOf (r .kind)) (ownCode (v .node)) (advanceCode (v .node) r) (markCode v r) (expandCode (v .node)) 0
 
 -- the code of a request, 0 where it is granted
 unfoldable pub refusal : View → Request → ℕ

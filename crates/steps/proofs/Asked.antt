@@ -7,7 +7,7 @@ use native.Mathlib.Omega.{arith}
 use native.Mathlib.Decide.{decLe}
 use lib.IntN.{ℤ, pos, negsuc}
 use lib.ListN.{length}
-use borrow.Author.Tests.{eq-eqb, ne-eqb, le-ltb, lt-leb}
+use borrow.Author.Tests.{eq-eqb, ne-eqb, lt-leb}
 use Rattle.numbers.specs.Progress.{negative}
 use Rattle.numbers.specs.Fields.{isNat, within, sameNumber}
 use Rattle.numbers.proofs.Laws.{within-made}
@@ -20,7 +20,7 @@ use Rattle.rules.specs.States.{AVAILABLE, STOLEN, EXPANDED, completed, stateOf}
 use Rattle.rules.specs.Table.{at, put, stolenIn}
 use Rattle.rules.specs.Refusals.{ownCode, advanceCode, expandCode, kindCode, refusal}
 use Rattle.rules.specs.Requests.{refused, refusing, ranged, split, seen, batchEnd, view, nodeIn, requested}
-use Rattle.rules.proofs.Expand.{room-left}
+use Rattle.rules.proofs.Expand.{pair-fits}
 use Rattle.rules.proofs.Granted.{Advancing, Marking, after, Answers, refuses, owns, advances, marks, expands, looks, late-facts, answers}
 use Rattle.rules.proofs.Keeps.{requested-wf}
 use Rattle.rules.proofs.Record.{WF}
@@ -205,8 +205,7 @@ module _ (l : Ledger) (w : WF l) (t n : ℕ) (tl : 1 ≤ t) (th : t ≤ l .teams
       stolen : InUse l n → stateOf (at l n) ≡ STOLEN → refusal (view l n) q ≡ 0
       stolen u e =
           let s = is-stolen (at l n) e in
-          by-kind l q refl teamed (used u)
-          ∙ rw (s .mark, eq-eqb (at l n .left) 0 (s .leaf), le-ltb (l .room) (l .used + 2) (room-left l w n (u .low) (u .high) s))
+          by-kind l q refl teamed (used u) ∙ rw (s .mark, eq-eqb (at l n .left) 0 (s .leaf))
 
       expanded : InUse l n → stateOf (at l n) ≡ EXPANDED → refusal (view l n) q ≡ 16
       expanded u e =
@@ -228,8 +227,8 @@ module _ (l : Ledger) (w : WF l) (t n : ℕ) (tl : 1 ≤ t) (th : t ≤ l .teams
       go (expands k a f) =
           took (record {
             here = record { low = a .node .low; high = a .node .high };
-            was = record { mark = f .mark; leaf = f .leaf };
-            fits = omega (arith, f .fits, w .room-high, w .slots);
+            was = f;
+            fits = pair-fits l w n (a .node .low) (a .node .high) f;
           })
       go (looks k a) = absurd (omega arith)
 

@@ -10,7 +10,7 @@ unfolding changed
 changed-by-spec = tie.close (tie.spec
     (λ c. search needs)
     (λ c. search needs)
-    (λ c κs. tt)
+    (λ c κs. rw (c .before .c .given .1) at (c .before .before .before .pre .1))
     (λ c. search needs)
     (λ c κs. (c .before .before .before .pre .0, rw (c .before .c2 .given .1) at (c .before .before .before .pre .1)))
     (λ c. rw (c .enum-told .given .1))
