@@ -1,12 +1,12 @@
 -- Laws of bytes put into an area, one part after the other.
 use mathlib.Core.Path.{_≡_, refl, sym, ap, _∙_, subst}
 use mathlib.Core.List.{List, [], _∷_, _++_, append-assoc, append-nil}
-use Prim.Native.Nat.{ℕ, _+_, _-_, _≤_, _<_}
+use Prim.Native.Nat.{ℕ, suc, _+_, _-_, _≤_, _<_}
 use native.Mathlib.Nat.{add-zero, add-assoc}
 use native.Mathlib.Numerals.{add-one}
 use native.Mathlib.Omega.{arith}
 use lib.ListN.{length, getD, set, take, drop, length-append, length-drop, take-append-drop}
-use lib.Seq.{length-take-le, take-at, drop-append-add, drop-drop, take-suc, set-split}
+use lib.Seq.{length-take-le, take-at, drop-append-add, drop-drop, take-suc, set-split, set-at}
 use Rattle.lines.specs.Area.{over, Put}
 
 pub over-nothing : (area : List ℕ) (at : ℕ) → over area at [] ≡ area
@@ -39,6 +39,15 @@ over-over area s t at h =
 over-byte : (area : List ℕ) (at b : ℕ) → at < length area → set area at b ≡ over area at (b ∷ [])
 unfolding over
 over-byte area at b h = set-split area at b h ∙ simp (add-one, append-assoc)
+
+-- one byte in front of those that stand there
+pub over-front : (area s : List ℕ) (at b : ℕ) → at + 1 + length s ≤ length area → set (over area (at + 1) s) at b ≡ over area at (b ∷ s)
+unfolding over
+over-front area s at b h =
+    let n : length (take at area) ≡ at = length-take-le at area (omega arith) in
+    let one : at + 1 + length s ≡ at + length (b ∷ s) = omega arith in
+    rw
+    (add-one at, take-suc area at 0 (omega arith), append-assoc (take at area) (getD area at 0 ∷ []) s, append-assoc (take at area) (getD area at 0 ∷ s) (drop (suc at + length s) area), set-at (take at area) (getD area at 0) (s ++ drop (suc at + length s) area) b at n, append-assoc (take at area) (b ∷ s) (drop (at + length (b ∷ s)) area), ← one, add-one at)
 
 pub put-nothing : (area : List ℕ) (at : ℕ) → Put area at [] at area
 put-nothing area at = record { place = sym (add-zero at); bytes = sym (over-nothing area at) }

@@ -1,6 +1,6 @@
 pub mod Decimal
 pub mod Area
-pub mod Spare
+pub mod Backwards
 pub mod Parts
 pub mod Whole
 pub mod Answer

@@ -50,21 +50,21 @@ fn put_byte(area: &mut [u8], at: usize, byte: u8) -> usize
     at + 1
 }
 
-// The last digit is found first, so the number is built backwards in a spare area, and then copied. A u64 has at most 20 digits.
+// The last digit is found first. The digits are counted, so each is written where it belongs.
 fn put_number(area: &mut [u8], at: usize, n: u64) -> usize
     requires { ⌜ at + length (decimal n) ≤ length (now area) ⌝ }
     ensures { λ r. ⌜ Put (now (area .entry)) at (decimal n) r (now (area .exit)) ⌝ }
 {
-    let mut spare = [0u8; 20];
-    let mut first: usize = 19;
+    let end = at + width(n);
+    let mut last = end - 1;
     let mut rest = n;
     while 10 <= rest {
-        spare[first] = b'0' + (rest % 10) as u8;
+        area[last] = b'0' + (rest % 10) as u8;
         rest /= 10;
-        first -= 1;
+        last -= 1;
     }
-    spare[first] = b'0' + rest as u8;
-    put(area, at, &spare[first..])
+    area[last] = b'0' + rest as u8;
+    end
 }
 
 // A number after its space. A negative one counts as 0: no caller puts it.

@@ -1,69 +1,65 @@
--- A number is built backwards in the spare area, and copied. The loop's invariant: `Half` of it is built.
-use mathlib.Core.Path.{refl}
-use mathlib.Core.List.{append-nil}
-use native.Mathlib.Omega.{arith}
+-- The digits are counted, and each is written where it belongs, the last one first. The loop's invariant: those `Behind` the place stand.
 use borrow.Author.Needs.{needs}
-use Rattle.lines.proofs.Spare.{Half, half-place, half-more, half-built}
+use native.Mathlib.Omega.{arith}
+use mathlib.Core.Path.{_≡_, refl, _∙_}
+use Prim.Native.Nat.{_+_, _≤_}
+use lib.ListN.{length, length-set}
+use Rattle.lines.specs.Decimal.{decimal}
+use Rattle.lines.proofs.Decimal.{decimal-some}
+use Rattle.lines.proofs.Backwards.{Behind, behind-none, behind-room, behind-place, behind-more, behind-all}
 use Rattle.lines.proofs.put_number.Statement.{statement}
 use Rattle.lines.proofs.put_number.Tie as tie
 
 abbrev Inv-loop : tie.InvT-loop
-Inv-loop area at n spare₀ first₀ rest₀ spare first rest = Half n spare first rest
+Inv-loop area₀ at n end last₀ rest₀ area last rest = (at + length (decimal n) ≤ length area₀) × (end ≡ at + length (decimal n)) × (length area ≡ length area₀) × Behind area₀ at n last rest area
 
 abbrev μ-loop : tie.MeasureT-loop
-μ-loop area at n spare₀ first₀ rest₀ spare first rest = first
+μ-loop area₀ at n end last₀ rest₀ area last rest = rest
+
+width-requires : tie.Need-width-requires Inv-loop μ-loop
+width-requires c κs = search needs
+
+add-end : tie.Need-add-end Inv-loop μ-loop
+add-end c = search needs
+
+sub-last : tie.Need-sub-last Inv-loop μ-loop
+sub-last c = omega (arith, c .width .ensures .0, decimal-some (c .before .before .args .n))
 
 loop-holds : tie.Need-loop-holds Inv-loop μ-loop
-loop-holds c = record { room = omega arith; high = omega arith; size = refl; digits = append-nil _ }
+loop-holds c = let one = decimal-some (c .before .before .args .n) in let e = c .width .ensures .0 in (c .before .before .pre, omega arith, refl, behind-none _ _ _ _ (omega arith))
 
-cast-spare : tie.Need-cast-spare Inv-loop μ-loop
-cast-spare c = search needs
+cast-area : tie.Need-cast-area Inv-loop μ-loop
+cast-area c = search needs
 
-add-spare : tie.Need-add-spare Inv-loop μ-loop
-add-spare c = search needs
+add-area : tie.Need-add-area Inv-loop μ-loop
+add-area c = search needs
 
-array-write-spare : tie.Need-array-write-spare Inv-loop μ-loop
-array-write-spare c = c .before .loop .inv .room
+slice-write-area : tie.Need-slice-write-area Inv-loop μ-loop
+slice-write-area c = behind-room _ _ _ _ _ _ (c .before .loop .inv .0) (c .before .loop .inv .3)
 
-sub-first : tie.Need-sub-first Inv-loop μ-loop
-sub-first c = half-place (c .before .loop .inv) (c .loop-test .taken)
+sub-last-2 : tie.Need-sub-last-2 Inv-loop μ-loop
+sub-last-2 c = behind-place _ _ _ _ _ _ (c .before .loop .inv .0) (c .before .loop .inv .3) (c .loop-test .taken)
 
 loop-less : tie.Need-loop-less Inv-loop μ-loop
-loop-less c = omega (arith, half-place (c .before .loop .inv) (c .loop-test .taken))
+loop-less c = search needs
 
 loop-again : tie.Need-loop-again Inv-loop μ-loop
-loop-again c = half-more (c .before .loop .inv) (c .loop-test .taken)
+loop-again c = (c .before .loop .inv .0, c .before .loop .inv .1, simp length-set (c .before .loop .inv .2), behind-more _ _ _ _ _ _ (c .before .loop .inv .0) (c .before .loop .inv .3) (c .loop-test .taken))
 
-cast-spare-2 : tie.Need-cast-spare-2 Inv-loop μ-loop
-cast-spare-2 c = search needs
+cast-area-2 : tie.Need-cast-area-2 Inv-loop μ-loop
+cast-area-2 c = search needs
 
-add-spare-2 : tie.Need-add-spare-2 Inv-loop μ-loop
-add-spare-2 c = search needs
+add-area-2 : tie.Need-add-area-2 Inv-loop μ-loop
+add-area-2 c = search needs
 
-array-write-spare-2 : tie.Need-array-write-spare-2 Inv-loop μ-loop
-array-write-spare-2 c = c .before .loop .inv .room
-
-sub-put : tie.Need-sub-put Inv-loop μ-loop
-sub-put c = search needs
-
-part-put-start : tie.Need-part-put-start Inv-loop μ-loop
-part-put-start c = search needs
-
-part-put-end : tie.Need-part-put-end Inv-loop μ-loop
-part-put-end c = omega (arith, half-built (c .before .before .before .loop .inv) (c .before .before .loop-test .left) .size)
-
-put-requires : tie.Need-put-requires Inv-loop μ-loop
-put-requires c κs =
-    let built = half-built (c .before .before .before .before .loop .inv) (c .before .before .before .loop-test .left) in
-    rw (built .digits) (c .before .before .before .before .before .before .pre)
+slice-write-area-2 : tie.Need-slice-write-area-2 Inv-loop μ-loop
+slice-write-area-2 c = behind-room _ _ _ _ _ _ (c .before .loop .inv .0) (c .before .loop .inv .3)
 
 same-length : tie.Need-same-length Inv-loop μ-loop
 same-length c = search needs
 
 returns : tie.Need-returns Inv-loop μ-loop
-returns c =
-    let built = half-built (c .before .before .before .before .before .before .before .loop .inv) (c .before .before .before .before .before .before .loop-test .left) in
-    rw (built .digits) at (c .before .before .put .ensures)
+returns c = record { place = c .before .loop .inv .1; bytes = behind-all _ _ _ _ _ _ (c .before .loop .inv .0) (c .before .loop .inv .3) (c .loop-test .left) }
 
 pub put-number-spec : {M : Type 1} → statement M
 put-number-spec =
@@ -71,19 +67,18 @@ put-number-spec =
     (tie.spec
     Inv-loop
     μ-loop
+    width-requires
+    add-end
+    sub-last
     loop-holds
-    cast-spare
-    add-spare
-    array-write-spare
-    sub-first
+    cast-area
+    add-area
+    slice-write-area
+    sub-last-2
     loop-less
     loop-again
-    cast-spare-2
-    add-spare-2
-    array-write-spare-2
-    sub-put
-    part-put-start
-    part-put-end
-    put-requires
+    cast-area-2
+    add-area-2
+    slice-write-area-2
     same-length
     returns)
