@@ -21,6 +21,7 @@ use Rattle.rules.specs.Listing.{Batch, isClaim, batchOf, batches, afterAll}
 use Rattle.rules.specs.Nodes.{positionOf, middle}
 use Rattle.rules.specs.Requests.{nodeIn, batchEnd, requested, refused}
 use Rattle.rules.specs.Table.{at}
+use Rattle.rules.proofs.Expand.{room-left}
 use Rattle.rules.proofs.Granted.{Asked, Answers, refuses, owns, advances, marks, expands, looks, answers}
 use Rattle.rules.proofs.Keeps.{requested-wf}
 use Rattle.rules.proofs.Once.{after-append}
@@ -104,7 +105,7 @@ module _ (l : Ledger) (w : WF l) (q : Request) (team : ℤ) (is : natOf team ≡
   noted (marks k a f) = other _ 3 k refl refl
   noted (expands k a f) =
       unfold noteOf batchOf isClaim in
-      (rw k (split-noted n (l .used + 1) (middle (at l n)) (omega (arith, a .node .high, w .used-room, w .room-high)) (omega (arith, f .fits, w .room-high))))
+      (rw k (split-noted n (l .used + 1) (middle (at l n)) (omega (arith, a .node .high, w .used-room, w .room-high)) (omega (arith, room-left l w n (a .node .low) (a .node .high) f, w .room-high))))
   noted (looks k a) = other _ 5 k refl refl
 
   request-noted : Told (requested l q)
