@@ -4,7 +4,7 @@ use mathlib.Core.Bool.{Bool, true, false, cond}
 use mathlib.Core.List.{List, [], _∷_, _++_, append-assoc, append-nil}
 use Prim.Native.Nat.{ℕ, _+_, _-_, _≤_, _<_}
 use native.Mathlib.Omega.{arith}
-use native.Mathlib.Decide.{ℕ-discrete, decLe}
+use native.Mathlib.Decide.{decLe}
 use lib.IntN.{ℤ, pos}
 use lib.ListN.{length, getD, set, take, replicate}
 use lib.Seq.{take-suc}
@@ -16,18 +16,16 @@ use Rattle.rules.specs.declared.Node.{Node}
 use Rattle.rules.specs.declared.Ledger.{Ledger}
 use Rattle.rules.specs.declared.Opening.{Opening}
 use Rattle.rules.specs.declared.Opened.{Opened}
-use Rattle.rules.specs.declared.Request.{Request}
 use Rattle.rules.specs.declared.View.{View}
 use Rattle.rules.specs.declared.Change.{Change}
 use Rattle.rules.specs.declared.Change.the-variants.{Keep, Store, Split}
 use Rattle.rules.specs.Limits.{opens, maxCap, maxTeams, maxNodes}
 use Rattle.rules.specs.Nodes.{blank, parted, leftPart, rightPart}
 use Rattle.rules.specs.States.{stolenOf}
-use Rattle.rules.specs.Refusals.{kindCode, refusal}
-use Rattle.rules.specs.Requests.{owning, advancing, marking, expanding, looking, granted, decided, view, changed, nodeIn}
+use Rattle.rules.specs.Requests.{view, changed}
 use Rattle.rules.specs.Table.{at, put, grown, stolenIn}
+use Rattle.rules.proofs.Changed.{Changes, keeps, stores, splits, changes}
 use Rattle.rules.proofs.Expand.{room-left, load-next}
-use Rattle.rules.proofs.Granted.{asked-facts, expand-facts, decided-granted, decided-refused}
 use Rattle.rules.specs.Opening.{opening, ledgerOf}
 use Rattle.rules.proofs.Opens.{opens-facts, opened-wf, opened-root}
 use Rattle.rules.proofs.Nodes.{at-out, at-next}
@@ -36,7 +34,6 @@ use Rattle.rules.proofs.Range.{within-range}
 use Rattle.rules.proofs.Record.{WF}
 use Rattle.rules.proofs.States.{never, Stolen, stolen-one, parent-none, fresh-none, blank-none}
 use Rattle.rules.proofs.Store.{stolen-put}
-use Rattle.rules.proofs.Tests.{Kind, own, advance, mark, expand, look, kind-of}
 use Rattle.steps.specs.declared.Team.{Team}
 use Rattle.steps.specs.declared.Turned.{Turned}
 use Rattle.steps.specs.Places.{scan}
@@ -44,7 +41,6 @@ use Rattle.steps.specs.Records.{freshTeam, noTeam, isStopped}
 use Rattle.steps.specs.Step.{slotOf, recordOf, lentCode, lentStep, stepUnless, recordsAfter}
 use Rattle.steps.specs.Turn.{asks, moves, still, turning, turned, carried}
 use Rattle.steps.specs.Run.{Run, stepTeam, runTeams}
-use Rattle.steps.proofs.Asked.{InUse}
 use Rattle.steps.proofs.Fits.{Fit, scan-roams}
 use Rattle.steps.proofs.Runs.{opened-used}
 use Rattle.steps.proofs.Refused.{Fitting, run-fits, never-refused-at, begun-fits}
@@ -155,46 +151,6 @@ module _ (l : Ledger) (w : WF l) (number : ℕ) (r : Team) (cap : ℕ) (fit : Fi
       go : Dec (r .node ≤ l .used) → (x .until ≤ 2147483647) × (x .left ≤ 1024)
       go (yes h) = (omega (arith, within-range l w (r .node) (fit .low) h .high, w .until-limit), child h (decLe 1 (x .left)))
       go (no h) = rw (w .blank (r .node) (omega arith)) (omega arith, omega arith)
-
--- ---- what a decision changes
-
--- nothing, or the node that it names, which is in use; a split is that of a STOLEN node
-pub data Changes (l : Ledger) (n : ℕ) : Change → Type 0 where
-  keeps : Changes l n Keep
-  stores : {x : Node} → InUse l n → Changes l n (Store x)
-  splits : InUse l n → Stolen (at l n)
-      → Changes l n (Split (parted (at l n) (l .used + 1)) (l .used + 1) (leftPart (at l n)) (rightPart (at l n)))
-
-module _ (l : Ledger) (q : Request) where
-  abbrev n : ℕ
-  n = nodeIn q
-
-  abbrev v : View
-  v = view l n
-
-  granted-changes : refusal v q ≡ 0 → Changes l n (granted v q .change)
-  unfolding granted
-  granted-changes e = go (kind-of (natOf (q .kind)) (asked-facts v q e .0 .kind .low) (asked-facts v q e .0 .kind .high))
-    where
-      used : InUse l n
-      used = let f = asked-facts v q e .0 .node in unfold view in (record { low = f .low; high = f .high })
-
-      was : natOf (q .kind) ≡ 4 → Stolen (at l n)
-      was k = unfold kindCode view in (expand-facts (at l n) (rw k at (asked-facts v q e .1)))
-
-      go : Kind (natOf (q .kind)) → Changes l n (granted v q .change)
-      go (own k) = rw k (unfold owning in (stores used))
-      go (advance k) = rw k (unfold advancing in (stores used))
-      go (mark k) = rw k (unfold marking in (stores used))
-      go (expand k) = rw k (unfold expanding view in (splits used (was k)))
-      go (look k) = rw k (unfold looking in keeps)
-
-  pub changes : Changes l n (decided v q .change)
-  changes = go (ℕ-discrete (refusal v q) 0)
-    where
-      go : Dec (refusal v q ≡ 0) → Changes l n (decided v q .change)
-      go (yes e) = rw (decided-granted v q e) (granted-changes e)
-      go (no e) = rw (decided-refused v q e) keeps
 
 -- ---- a turn of a team that scans
 

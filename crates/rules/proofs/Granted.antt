@@ -180,16 +180,16 @@ asked-facts v r e = asked-to 0 v r tt e
 
 -- ---- refused by 16
 
+late-expand : (x : Node) → expandCode x ≡ 16 → 0 < x .left
+unfolding expandCode
+late-expand x h = go (childless x) refl
+  where
+    go : (b : Bool) → childless x ≡ b → 0 < x .left
+    go true e = let none = passed-to 16 ((15 when not (marked x)) ∷ []) 0 tt (rw e at h) .1 in absurd (omega arith)
+    go false e = let some = eqb-false (x .left) 0 e in omega arith
+
 -- 16 is given to no request but an expand, and of no node but one that has children
 module _ (v : View) (r : Request) where
-  late-expand : (x : Node) → expandCode x ≡ 16 → 0 < x .left
-  unfolding expandCode
-  late-expand x h = go (childless x) refl
-    where
-      go : (b : Bool) → childless x ≡ b → 0 < x .left
-      go true e = let none = passed-to 16 ((15 when not (marked x)) ∷ []) 0 tt (rw e at h) .1 in absurd (omega arith)
-      go false e = let some = eqb-false (x .left) 0 e in omega arith
-
   late-kind : kindCode v r ≡ 16 → Kind (natOf (r .kind)) → 0 < v .node .left
   unfolding kindCode ownCode advanceCode markCode
   late-kind h (own e) = let none = passed-to 16 (ownTests (v .node)) 0 tt (rw e at h) .1 in absurd (omega arith)

@@ -18,6 +18,7 @@ pub mod Demands
 pub mod Claims
 pub mod Batches
 pub mod Tree
+pub mod Changed
 pub mod Onward
 pub mod Whole
 pub mod Sheets

@@ -1,7 +1,7 @@
 -- The five requests: what a granted one answers and does, a refusal, and the request on a ledger.
 use Prim.Native.Nat.{ℕ, _+_, min}
-use mathlib.Core.Bool.{Bool, cond}
-use lib.IntN.{ℤ, pos}
+use mathlib.Core.Bool.{cond}
+use lib.IntN.{pos}
 use lib.Dec.{eqb}
 use Rattle.numbers.specs.Progress.{mark}
 use Rattle.numbers.specs.Fields.{natOf}

@@ -7,7 +7,6 @@ use lib.Dec.{leb, ltb, eqb}
 use Rattle.numbers.specs.Fields.{isNat}
 use Rattle.rules.specs.declared.Node.{Node}
 use Rattle.rules.specs.declared.Ledger.{Ledger}
-use Rattle.rules.specs.declared.Opening.{Opening}
 use Rattle.rules.specs.Limits.{opens, maxNodes}
 use Rattle.rules.specs.Nodes.{marked, unowned, childless, positionOf, middle}
 use Rattle.rules.specs.Table.{at, sumBy, stolenIn}

@@ -25,14 +25,10 @@ use Rattle.rules.proofs.Granted.{Advancing, Marking, after, Answers, refuses, o
 use Rattle.rules.proofs.Keeps.{requested-wf}
 use Rattle.rules.proofs.Record.{WF}
 use Rattle.rules.proofs.States.{Available, Stolen, is-available, is-stolen, is-expanded}
+use Rattle.rules.proofs.Tree.{InUse}
 use Rattle.steps.specs.Asks.{own, advance, mark, expand, look}
 
--- the node is one of those in use
-pub record InUse (l : Ledger) (n : ℕ) : Type 0 where
-  pub low : 1 ≤ n
-  pub high : n ≤ l .used
-
--- and it has children
+-- the node is in use, and it has children
 pub record Parent (l : Ledger) (n : ℕ) : Type 0 where
   pub here : InUse l n
   pub some : 0 < at l n .left

@@ -28,9 +28,10 @@ use Rattle.steps.specs.declared.Team.{Team}
 use Rattle.steps.specs.Asks.{own, advance, mark, expand, look}
 use Rattle.steps.specs.Records.{sized, split, work, childOn}
 use Rattle.steps.specs.Places.{Line, again, grownSize, takeMoves, workMoves, claimMoves, splitMoves}
+use Rattle.rules.proofs.Tree.{InUse}
 use Rattle.steps.proofs.Stages.{Stage, hunt, taking, busy, parting, stageOf, child, Heads, works, parts, takes, Open, unmade, untaken, All, Moved, Duty, duty-same, duty-hunt, duty-taking, duty-busy, duty-parting}
 use Rattle.steps.proofs.Changes.{Older, all-keep, all-put, older-put, tended-shut, all-split, older-split}
-use Rattle.steps.proofs.Asked.{InUse, Takes, Claims, Marks, Splits, Unsplit, by-own, by-advance, by-mark, by-expand, by-look}
+use Rattle.steps.proofs.Asked.{Takes, Claims, Marks, Splits, Unsplit, by-own, by-advance, by-mark, by-expand, by-look}
 
 -- from the ledger l and a team t at the stage s to l′ and s′: every node stays looked after, whatever the other teams do
 pub record Fair (l : Ledger) (t : ℕ) (s : Stage) (l′ : Ledger) (s′ : Stage) : Type 0 where

@@ -27,7 +27,8 @@ use Rattle.steps.specs.Asks.{mark, expand, look}
 use Rattle.steps.specs.Records.{childOn, sized, take, work}
 use Rattle.steps.specs.Places.{Search, lineAt, scan, again, onward, mine, stealable, takeMoves, workMoves, claimMoves, splitMoves, seekMoves, markMoves}
 use Rattle.steps.specs.Step.{stepFrom}
-use Rattle.steps.proofs.Asked.{InUse, Parent, Unsplit, by-mark, by-expand, by-look}
+use Rattle.rules.proofs.Tree.{InUse}
+use Rattle.steps.proofs.Asked.{Parent, Unsplit, by-mark, by-expand, by-look}
 use Rattle.steps.proofs.Fair.{is-child}
 use Rattle.steps.proofs.Seeks.{Searching, seeks, steals}
 

@@ -1,6 +1,5 @@
 -- One case for each change.
 use borrow.Author.Needs.{needs}
-use mathlib.Core.Path.{_∙_, refl}
 use Rattle.rules.specs.Requests.{changed}
 use Rattle.ledger.proofs.table.changed_by.Statement.{statement}
 use Rattle.ledger.proofs.table.changed_by.Tie as tie
