@@ -34,6 +34,7 @@ use Rattle.rules.proofs.Range.{within-range}
 use Rattle.rules.proofs.Record.{WF}
 use Rattle.rules.proofs.States.{never, Stolen, stolen-one, parent-none, fresh-none, blank-none}
 use Rattle.rules.proofs.Store.{stolen-put}
+use Rattle.rules.proofs.Tree.{InUse}
 use Rattle.steps.specs.declared.Team.{Team}
 use Rattle.steps.specs.declared.Turned.{Turned}
 use Rattle.steps.specs.Places.{scan}
