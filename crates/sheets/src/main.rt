@@ -3,19 +3,22 @@
 // fails ends the program.
 ghost use mathlib.Core.Path.{_≡_};
 ghost use lib.ListN.{length};
+ghost use Rattle.listing.specs.Listing.{scheduleRoom};
+ghost use Rattle.listing.specs.Demands.{listingRoom};
 use libc::STDIN_FILENO;
 use libc::STDOUT_FILENO;
 
-// Room for the most schedule numbers, and for the longest listing: 40 bytes a line for each of them, the open line and the left line. Only
-// their lengths are known to a caller, which is all that lending them needs.
+// Room for the most schedule numbers, and for the longest listing: 40 bytes a line for each of them, the open line and the left line. These
+// are the rooms of the listing's theorem that no text finds them too short. Only their lengths are known to a caller, which is all that
+// lending them needs.
 fn schedule_area() -> [i32; 32768]
-    ensures { λ r. ⌜ 32768 ≡ length r ⌝ }
+    ensures { λ r. ⌜ scheduleRoom ≡ length r ⌝ }
 {
     [0; 32768]
 }
 
 fn listing_area() -> [u8; 1310800]
-    ensures { λ r. ⌜ 1310800 ≡ length r ⌝ }
+    ensures { λ r. ⌜ listingRoom ≡ length r ⌝ }
 {
     [0; 1310800]
 }
