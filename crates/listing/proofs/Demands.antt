@@ -27,13 +27,13 @@ use Rattle.steps.proofs.Demands.{scan-leaves-nothing}
 use Rattle.text.specs.Marks.{marks}
 use Rattle.text.specs.Judgement.{scheduleNumbers}
 use Rattle.text.specs.Answers.{scheduleOf}
-use Rattle.text.specs.Demands.{WithinLimits}
+use Rattle.text.specs.Demands.{scheduleRoom, WithinLimits}
 use Rattle.text.proofs.Demands.{granted-within-limits, same-marks, comments-never-matter}
 use Rattle.lines.specs.Line.{Line, leftLine, refusedLine, anyNegative, spaced, whole, text}
 use Rattle.lines.proofs.Decimal.{decimal-width}
 use Rattle.lines.proofs.Demands.{at-most-40}
 use Rattle.listing.specs.Steps.{headLine, lastLine, notes, startOf, endOf, runLines}
-use Rattle.listing.specs.Listing.{scheduleRoom, teamsIn, linesOf, bytesOf, listingOf}
+use Rattle.listing.specs.Listing.{teamsIn, linesOf, bytesOf, listingOf}
 use Rattle.listing.specs.Paper.{Paper, listed, paperOf}
 use Rattle.listing.specs.Grants.{claimsIn, asked}
 use Rattle.listing.specs.Demands.{IsGranted, opensWith, askedBy, PlainListing, RefusedInOneLine, CommentsNeverPrinted, PrintsWhatWasGranted, NoSheetPrintedTwice, EverySheetPrintedOnce, AllStoppedNoneLeft, WholeOrRefused, PrintsTheListing}

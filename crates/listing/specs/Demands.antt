@@ -14,12 +14,12 @@ use Rattle.rules.specs.declared.Request.{Request}
 use Rattle.rules.specs.Listing.{sheets, batches, reached, timesIn, ListsOnly}
 use Rattle.rules.specs.Opening.{opening}
 use Rattle.text.specs.Answers.{scheduleOf}
-use Rattle.text.specs.Demands.{SameButComments}
+use Rattle.text.specs.Demands.{scheduleRoom, SameButComments}
 use Rattle.lines.specs.Line.{Line, leftLine, refusedLine, text}
 use Rattle.lines.specs.Plain.{isPlain, all}
 use Rattle.listing.specs.declared.Listed.{Listed}
 use Rattle.listing.specs.Steps.{startOf, endOf}
-use Rattle.listing.specs.Listing.{scheduleRoom, teamsIn, linesOf, bytesOf, listingOf}
+use Rattle.listing.specs.Listing.{teamsIn, linesOf, bytesOf, listingOf}
 use Rattle.listing.specs.Paper.{answerTo, areaAfter}
 use Rattle.listing.specs.Grants.{claimsIn, asked}
 

@@ -9,12 +9,9 @@ use Rattle.text.specs.declared.Schedule.{Schedule}
 use Rattle.text.specs.Marks.{marks}
 use Rattle.text.specs.Judgement.{scheduleNumbers}
 use Rattle.text.specs.Answers.{scheduleOf}
+use Rattle.text.specs.Demands.{scheduleRoom}
 use Rattle.lines.specs.Line.{Line, refusedLine, text}
 use Rattle.listing.specs.Steps.{runLines}
-
--- "`sheets` lends room for 32,768 schedule numbers, so it never prints 27."
-abbrev pub scheduleRoom : ℕ
-scheduleRoom = 32768
 
 -- the team numbers of a text, in their order
 abbrev pub teamsIn : List ℕ → List ℤ

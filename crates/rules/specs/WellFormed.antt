@@ -39,7 +39,7 @@ rootRange l = eqb (at l 1 .start) (l .start) && eqb (at l 1 .until) (l .until)
 
 -- ---- a node by itself
 
--- "each progress lies in start..until, or is negative with position from start to until − 1"
+-- "each progress lies in start..until, or is negative with position from start to until − 2", and by W1 "up to until − 1"
 abbrev pub progressRule : Node → Bool
 progressRule x =
     leb (x .start) (positionOf x) && leb (positionOf x) (x .until) && (not (marked x) || leb (positionOf x + 1) (x .until))

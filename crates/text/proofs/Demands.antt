@@ -23,7 +23,7 @@ use Rattle.text.specs.Judgement.{maxBytes, headerNumbers, ruled, granted
 use Rattle.text.specs.Answers.{headerOf, restPlace, scheduleOf, areaOf}
 use Rattle.text.specs.declared.Kind.the-variants as kind
 use Rattle.text.specs.Tokens.{tokenOf, tokenAt}
-use Rattle.text.specs.Demands.{SameButComments, nothing, same, other, CommentsNeverMatter, AllTeams, none, more, GrantedIsWithinLimits, AllExact, exact, GrantedIsExact, NeverShort, Scans, ended, found, tokensOf, ScannerFindsTheMarks}
+use Rattle.text.specs.Demands.{scheduleRoom, SameButComments, nothing, same, other, CommentsNeverMatter, AllTeams, none, more, GrantedIsWithinLimits, AllExact, exact, GrantedIsExact, NeverShort, Scans, ended, found, tokensOf, ScannerFindsTheMarks}
 use Rattle.text.proofs.Scanning.{later, moves, at-end}
 use Rattle.text.proofs.Values.{small-value}
 use Rattle.text.proofs.Judging.{passed, header-granted, schedule-granted, granted-is}
@@ -195,7 +195,7 @@ after-fewer (lineEnd k ∷ ms) = omega arith
 after-fewer (number ds k ∷ ms) = omega (arith, after-fewer ms)
 after-fewer (wrong k ∷ ms) = after-fewer ms
 
-enough : (text : List ℕ) → length text ≤ maxBytes → length (scheduleNumbers (marks text)) ≤ 32768
+enough : (text : List ℕ) → length text ≤ maxBytes → length (scheduleNumbers (marks text)) ≤ scheduleRoom
 enough text h =
     let ms = marks text in
     omega (arith, after-fewer (fromHead ms), head-fewer ms, few-marks false text, begun-most false text)
@@ -236,14 +236,14 @@ header-short n ms =
     (λ z. omega (arith, z))
     (given-short (not (isGranted (faultFrom 1 ms))) (faultFrom 1 ms) (headVerdict ms) (fault-short 1 ms) (head-short ms))
 
-body-short : (ms : List Mark) → length (scheduleNumbers ms) ≤ 32768 → Short (bodyVerdict 32768 ms) → ⊥
+body-short : (ms : List Mark) → length (scheduleNumbers ms) ≤ scheduleRoom → Short (bodyVerdict scheduleRoom ms) → ⊥
 unfolding bodyVerdict Short
 body-short ms h =
     rw
-    (le-ltb 32768 (length (scheduleNumbers ms)) h)
+    (le-ltb scheduleRoom (length (scheduleNumbers ms)) h)
     (given-short (not (eqb (strangerLine ms) 0)) (ruled 26 (strangerLine ms)) granted (λ z. omega (arith, z)) (λ z. omega (arith, z)))
 
-short-by : (b : Bool) (text : List ℕ) → isGranted (headerVerdict (length text) (marks text)) ≡ b → Short (given (not b) (headerVerdict (length text) (marks text)) (bodyVerdict 32768 (marks text))) → ⊥
+short-by : (b : Bool) (text : List ℕ) → isGranted (headerVerdict (length text) (marks text)) ≡ b → Short (given (not b) (headerVerdict (length text) (marks text)) (bodyVerdict scheduleRoom (marks text))) → ⊥
 short-by true text g = body-short (marks text) (enough text (ltb-false maxBytes (length text) (header-granted (length text) (marks text) g .0)))
 short-by false text g = header-short (length text) (marks text)
 

@@ -60,8 +60,11 @@ abbrev pub GrantedIsExact : Type 0
 GrantedIsExact = (text : List ℕ) → headerOf text .code ≡ 0 → AllExact (marks text)
 
 -- "`sheets` lends room for 32,768 schedule numbers, so it never prints 27."
+abbrev pub scheduleRoom : ℕ
+scheduleRoom = 32768
+
 abbrev pub NeverShort : Type 0
-NeverShort = (text : List ℕ) → scheduleOf 32768 text .code ≡ 27 → ⊥
+NeverShort = (text : List ℕ) → scheduleOf scheduleRoom text .code ≡ 27 → ⊥
 
 -- The tokens that a scanner finds from a place on, one after the other, up to the text's end.
 pub data Scans (text : List ℕ) : ℕ → List Token → Type 0 where
