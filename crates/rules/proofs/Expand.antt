@@ -6,7 +6,6 @@ use Prim.Native.Nat.{ℕ, _+_, _-_, _*_, _%_, _≤_, _<_}
 use native.Mathlib.Omega.{arith}
 use native.Mathlib.Decide.{ℕ-discrete, decLe}
 use lib.ListN.{length}
-use borrow.Author.Tests.{eq-eqb, ne-eqb}
 use Rattle.rules.specs.declared.Node.{Node}
 use Rattle.rules.specs.declared.Ledger.{Ledger}
 use Rattle.rules.specs.Nodes.{blank, fresh, parted, middle, leftPart, rightPart}
@@ -15,6 +14,7 @@ use Rattle.rules.specs.Table.{at, put, grown, sumBy, stolenIn}
 use Rattle.rules.specs.WellFormed.{leftIs}
 use Rattle.rules.proofs.Granted.{after}
 use Rattle.rules.proofs.Nodes.{at-next}
+use Rattle.rules.proofs.Parents.{no-left, is-left}
 use Rattle.rules.proofs.Record.{WF, Alone, Pair}
 use Rattle.rules.proofs.Split as Split
 use Rattle.rules.proofs.States.{Stolen, stolen-one, parent-none, fresh-none, blank-none}
@@ -32,16 +32,6 @@ alone-fresh teams a b h =
       empty = λ e. refl;
       lone = λ e. refl;
     }
-
--- 1 where the left child is c
-module _ (c : ℕ) (x : Node) where
-  no-left : x .left ≢ c → leftIs c x ≡ 0
-  unfolding leftIs
-  no-left ne = rw (ne-eqb (x .left) c ne)
-
-  is-left : x .left ≡ c → leftIs c x ≡ 1
-  unfolding leftIs
-  is-left e = rw (eq-eqb (x .left) c e)
 
 module _ (l : Ledger) (w : WF l) (n : ℕ) (low : 1 ≤ n) (high : n ≤ l .used) (s : Stolen (at l n)) where
   -- a STOLEN node has a pair to take
@@ -65,16 +55,16 @@ module _ (l : Ledger) (w : WF l) (n : ℕ) (low : 1 ≤ n) (high : n ≤ l .used
   next = after l n y (leftPart x) (rightPart x)
 
   -- slot by slot
-  here-is : at next n ≡ y
+  pub here-is : at next n ≡ y
   here-is = Split.split-here l n y (leftPart x) (rightPart x) low high pair-fits
 
-  left-is : at next (l .used + 1) ≡ leftPart x
+  pub left-is : at next (l .used + 1) ≡ leftPart x
   left-is = Split.split-left l n y (leftPart x) (rightPart x) low high pair-fits
 
-  right-is : at next (l .used + 1 + 1) ≡ rightPart x
+  pub right-is : at next (l .used + 1 + 1) ≡ rightPart x
   right-is = Split.split-right l n y (leftPart x) (rightPart x) low high pair-fits
 
-  other-is : (m : ℕ) → 1 ≤ m → m ≢ n → m ≢ l .used + 1 → m ≢ l .used + 1 + 1 → at next m ≡ at l m
+  pub other-is : (m : ℕ) → 1 ≤ m → m ≢ n → m ≢ l .used + 1 → m ≢ l .used + 1 + 1 → at next m ≡ at l m
   other-is = Split.split-other l n y (leftPart x) (rightPart x) low high pair-fits
 
   sums : (f : Node → ℕ) → f blank ≡ 0 → sumBy f (next .nodes) + f x ≡ sumBy f (l .nodes) + (f y + (f (leftPart x) + f (rightPart x)))

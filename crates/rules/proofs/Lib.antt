@@ -1,5 +1,8 @@
 -- What follows from the definitions of specs/.
 pub mod Nodes
+pub mod Tree
+pub mod Numbers
+pub mod Parents
 pub mod Sums
 pub mod States
 pub mod Facts
@@ -11,17 +14,20 @@ pub mod Store
 pub mod Expand
 pub mod Keeps
 pub mod Opens
+pub mod Rooted
+pub mod TreeSum
 pub mod Range
 pub mod Moves
 pub mod Examples
 pub mod Demands
 pub mod Claims
 pub mod Batches
-pub mod Tree
 pub mod Changed
 pub mod Onward
 pub mod Whole
 pub mod Sheets
+pub mod Story
+pub mod Tally
 pub mod Sheet40
 pub mod Once
 pub mod Counting

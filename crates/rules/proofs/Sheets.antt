@@ -16,7 +16,6 @@ use Rattle.rules.specs.Table.{at}
 use Rattle.rules.proofs.Batches.{sheets-none}
 use Rattle.rules.proofs.Onward.{run-later}
 use Rattle.rules.proofs.Opens.{opened-wf, opened-root}
-use Rattle.rules.proofs.Tree.{leaf}
 use Rattle.rules.proofs.Whole.{Whole, run-whole, root-lists, one-listing}
 
 -- ---- a new ledger
@@ -41,7 +40,6 @@ unfolding opened grantedFrom
 begun-whole o e =
     record {
       wf = opened-wf o e;
-      tree = leaf {n = 1} (record { low = omega arith; high = omega arith }) (rw opened-root);
       given = λ n p q. let f : n ≡ 1 = omega arith in rw (f, opened-root, sheets-none);
       none = λ n p. refl;
     }

@@ -1,7 +1,7 @@
--- What holds of a ledger and of what was granted, after any requests: the nodes form a tree below the root, and from each node
--- the sheets from its start up to its position were granted. So the root lists the whole range.
+-- What holds of a ledger and of what was granted, after any requests: from each node the sheets from its start up to its position
+-- were granted. So the root lists the whole range.
 use mathlib.Core.Path.{_≡_, refl, sym, _∙_, subst}
-use mathlib.Core.Logic.{_≢_, _⊎_, inl, inr}
+use mathlib.Core.Logic.{_≢_}
 use mathlib.Core.List.{List, [], _∷_, _++_, append-assoc, append-nil}
 use Prim.Native.Nat.{ℕ, _+_, _≤_, _<_}
 use native.Mathlib.Omega.{arith}
@@ -25,12 +25,12 @@ use Rattle.rules.proofs.Nodes.{at-same, at-other}
 use Rattle.rules.proofs.Record.{WF}
 use Rattle.rules.proofs.Split.{split-here, split-left, split-right, split-other}
 use Rattle.rules.proofs.Store.{Swap}
-use Rattle.rules.proofs.Tree.{InUse, Tree, leaf, fork, SameChildren, regrow}
+use Rattle.rules.proofs.Rooted.{rooted}
+use Rattle.rules.proofs.Tree.{InUse, Tree, leaf, fork}
 use Rattle.rules.proofs.Expand.{pair-fits}
 
 pub record Whole (l : Ledger) (bs : List Batch) : Type 0 where
   pub wf : WF l
-  pub tree : Tree l 1
   pub given : (n : ℕ) → 1 ≤ n → n ≤ l .used → grantedFrom bs n ≡ sheets (at l n .start) (positionOf (at l n))
   pub none : (n : ℕ) → l .used < n → grantedFrom bs n ≡ []
 
@@ -45,20 +45,23 @@ module _ (l : Ledger) (bs : List Batch) (h : Whole l bs) where
       let a = h .wf .alone n (u .low) (u .high) in
       rw (h .given n (u .low) (u .high)) (sheets-join _ _ _ (a .low) (a .high))
 
-  parts-whole : (n : ℕ) → InUse l n → 0 < at l n .left
-      → grantedFrom bs n ++ (ranged-of (at l n .left) ++ ranged-of (at l n .left + 1)) ≡ ranged-of n
+  parts-whole : (n c : ℕ) → InUse l n → 0 < c → at l n .left ≡ c
+      → grantedFrom bs n ++ (ranged-of c ++ ranged-of (c + 1)) ≡ ranged-of n
   unfolding middle
-  parts-whole n u some =
+  parts-whole n c u some e =
       let a = h .wf .alone n (u .low) (u .high) in
-      let p = h .wf .pair n (u .low) (u .high) some in
+      let p = rw e at (h .wf .pair n (u .low) (u .high) (omega arith)) in
       rw
       (h .given n (u .low) (u .high), p .left-start, p .left-until, p .right-start, p .right-until, sheets-join (positionOf (at l n)) (middle (at l n)) (at l n .until) (omega arith) (omega (arith, a .high)))
       (sheets-join _ _ _ (a .low) (a .high))
 
   lists : {n : ℕ} → Tree l n → Lists l bs n (ranged-of n)
   lists (leaf {n = n} u e) = subst (λ (xs : List ℕ). Lists l bs n xs) (ends-whole n u) (ends e)
-  lists (fork {n = n} u some x y) =
-      subst (λ (xs : List ℕ). Lists l bs n xs) (parts-whole n u some) (parts some (lists x) (lists y))
+  lists (fork {n = n} {c = c} u some e x y) =
+      subst
+      (λ (xs : List ℕ). Lists l bs n xs)
+      (parts-whole n c u some e)
+      (parts {n = n} {xs = ranged-of c} {ys = ranged-of (c + 1)} (omega arith) (rw e (lists x)) (rw e (lists y)))
 
 -- a node has one listing
 pub one-listing : {l : Ledger} {bs : List Batch} {n : ℕ} {xs ys : List ℕ} → Lists l bs n xs → Lists l bs n ys → xs ≡ ys
@@ -70,7 +73,7 @@ one-listing (parts h x y) (parts k u v) = rw (one-listing x u, one-listing y v)
 pub root-lists : (l : Ledger) (bs : List Batch) (a b : ℕ) → Whole l bs → at l 1 .start ≡ a → at l 1 .until ≡ b
     → ListsOnly l bs 1 (sheets a b)
 root-lists l bs a b h e f =
-    let xs : Lists l bs 1 (sheets a b) = rw (e, f) at (lists l bs h (h .tree)) in
+    let xs : Lists l bs 1 (sheets a b) = rw (e, f) at (lists l bs h (rooted l (h .wf) .tree)) in
     record { lists = xs; only = λ ys y. one-listing y xs }
 
 -- ---- one node changes: own, advance, mark
@@ -81,12 +84,6 @@ module _ (l : Ledger) (bs cs : List Batch) (n : ℕ) (y : Node) (h : Whole l bs)
     (there : (m : ℕ) → m ≢ n → grantedFrom cs m ≡ grantedFrom bs m) where
   same : at (put l n y) n ≡ y
   same = at-same l n y low (omega (arith, h .wf .slots, h .wf .used-room, h .wf .room-high))
-
-  same-children : (m : ℕ) → InUse l m → Dec (m ≡ n) → SameChildren l (put l n y) m
-  unfolding put
-  same-children m u (yes e) = record { here = record { low = u .low; high = u .high }; left = rw (e, same) (sw .left) }
-  same-children m u (no ne) =
-      record { here = record { low = u .low; high = u .high }; left = rw (at-other l n y low m (u .low) ne) }
 
   stored-given : (m : ℕ) → 1 ≤ m → m ≤ l .used → Dec (m ≡ n)
       → grantedFrom cs m ≡ sheets (at (put l n y) m .start) (positionOf (at (put l n y) m))
@@ -101,7 +98,6 @@ module _ (l : Ledger) (bs cs : List Batch) (n : ℕ) (y : Node) (h : Whole l bs)
   stored-whole =
       record {
         wf = good;
-        tree = regrow l (put l n y) (λ m u. inl (same-children m u (ℕ-discrete m n))) (h .tree);
         given = λ m p q. stored-given m p q (ℕ-discrete m n);
         none = λ m p. there m (omega arith) ∙ h .none m p;
       }
@@ -131,31 +127,6 @@ module _ (l : Ledger) (bs : List Batch) (n : ℕ) (h : Whole l bs) (low : 1 ≤ 
   other-is : (m : ℕ) → 1 ≤ m → m ≢ n → m ≢ l .used + 1 → m ≢ l .used + 1 + 1 → at next m ≡ at l m
   other-is = split-other l n y (leftPart x) (rightPart x) low high room
 
-  in-use : (m : ℕ) → 1 ≤ m → m ≤ l .used + 2 → InUse next m
-  unfolding put grown
-  in-use m p q = record { low = p; high = q }
-
-  -- the split node is the top of a tree of three
-  three : Tree next n
-  unfolding leftPart rightPart
-  three =
-      let e : at next n .left ≡ l .used + 1 = rw here-is in
-      fork
-      (in-use n low (omega arith))
-      (omega arith)
-      (rw e (leaf (in-use (l .used + 1) (omega arith) (omega arith)) (rw left-is)))
-      (rw e (leaf (in-use (l .used + 1 + 1) (omega arith) (omega arith)) (rw right-is)))
-
-  each-node : (m : ℕ) → InUse l m → Dec (m ≡ n) → SameChildren l next m ⊎ Tree next m
-  each-node m u (yes e) = inr (rw e three)
-  each-node m u (no ne) =
-      let p = u .low in
-      let q = u .high in
-      inl (record {
-        here = in-use m p (omega arith);
-        left = rw (other-is m p ne (omega arith) (omega arith));
-      })
-
   split-given : (m : ℕ) → 1 ≤ m → m ≤ l .used + 2 → Dec (m ≡ n) → Dec (m ≡ l .used + 1) → Dec (m ≡ l .used + 1 + 1)
       → grantedFrom bs m ≡ sheets (at next m .start) (positionOf (at next m))
   unfolding leftPart rightPart
@@ -169,7 +140,6 @@ module _ (l : Ledger) (bs : List Batch) (n : ℕ) (h : Whole l bs) (low : 1 ≤ 
   split-whole good =
       record {
         wf = good;
-        tree = regrow l next (λ m u. each-node m u (ℕ-discrete m n)) (h .tree);
         given = λ m p q. split-given m p q (ℕ-discrete m n) (ℕ-discrete m (l .used + 1)) (ℕ-discrete m (l .used + 1 + 1));
         none = λ m p. h .none m (omega arith);
       }

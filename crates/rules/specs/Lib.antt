@@ -13,6 +13,7 @@ pub mod Count
 pub mod Examples
 pub mod Demands
 pub mod Listing
+pub mod Story
 pub mod Sheets
 pub mod Sheet40
 pub mod Listed
