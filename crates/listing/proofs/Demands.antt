@@ -24,11 +24,11 @@ use Rattle.steps.specs.Records.{isStopped}
 use Rattle.steps.specs.Step.{recordOf}
 use Rattle.steps.specs.Run.{stoppedTo, stoppedTeams}
 use Rattle.steps.proofs.Demands.{scan-leaves-nothing}
-use Rattle.text.specs.Marks.{marks}
-use Rattle.text.specs.Judgement.{scheduleNumbers}
-use Rattle.text.specs.Answers.{scheduleOf}
-use Rattle.text.specs.Demands.{scheduleRoom, WithinLimits}
-use Rattle.text.proofs.Demands.{granted-within-limits, same-marks, comments-never-matter}
+use Rattle.text_rules.specs.Marks.{marks}
+use Rattle.text_rules.specs.Judgement.{scheduleNumbers}
+use Rattle.text_rules.specs.Answers.{scheduleOf}
+use Rattle.text_rules.specs.Demands.{scheduleRoom, WithinLimits}
+use Rattle.text_rules.proofs.Demands.{granted-within-limits, same-marks, comments-never-matter}
 use Rattle.lines.specs.Line.{Line, leftLine, refusedLine, anyNegative, spaced, whole, text}
 use Rattle.lines.proofs.Decimal.{decimal-width}
 use Rattle.lines.proofs.Demands.{at-most-40}

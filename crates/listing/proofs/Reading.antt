@@ -13,12 +13,12 @@ use Rattle.numbers.specs.Progress.{signed}
 use Rattle.numbers.specs.Fields.{natOf, within}
 use Rattle.numbers.proofs.Laws.{within-made}
 use Rattle.rules.proofs.Opens.{opens-facts}
-use Rattle.text.specs.declared.Schedule.{Schedule}
-use Rattle.text.specs.Marks.{marks}
-use Rattle.text.specs.Judgement.{scheduleNumbers}
-use Rattle.text.specs.Answers.{scheduleOf, filled, areaOf}
-use Rattle.text.specs.Demands.{AllTeams, none, more, WithinLimits}
-use Rattle.text.proofs.Demands.{granted-within-limits}
+use Rattle.text_rules.specs.declared.Schedule.{Schedule}
+use Rattle.text_rules.specs.Marks.{marks}
+use Rattle.text_rules.specs.Judgement.{scheduleNumbers}
+use Rattle.text_rules.specs.Answers.{scheduleOf, filled, areaOf}
+use Rattle.text_rules.specs.Demands.{AllTeams, none, more, WithinLimits}
+use Rattle.text_rules.proofs.Demands.{granted-within-limits}
 use Rattle.lines.specs.Line.{refusedLine}
 use Rattle.listing.specs.declared.Listed.{Listed}
 use Rattle.listing.specs.Steps.{startOf, endOf, notes, headLine, lastLine, runLines}

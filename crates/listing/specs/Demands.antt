@@ -13,8 +13,8 @@ use Rattle.rules.specs.declared.Opening.{Opening}
 use Rattle.rules.specs.declared.Request.{Request}
 use Rattle.rules.specs.Listing.{sheets, batches, reached, timesIn, ListsOnly}
 use Rattle.rules.specs.Opening.{opening}
-use Rattle.text.specs.Answers.{scheduleOf}
-use Rattle.text.specs.Demands.{scheduleRoom, SameButComments}
+use Rattle.text_rules.specs.Answers.{scheduleOf}
+use Rattle.text_rules.specs.Demands.{scheduleRoom, SameButComments}
 use Rattle.lines.specs.Line.{Line, leftLine, refusedLine, text}
 use Rattle.lines.specs.Plain.{isPlain, all}
 use Rattle.listing.specs.declared.Listed.{Listed}

@@ -5,11 +5,11 @@ use mathlib.Core.List.{List, [], _∷_, _++_, map}
 use lib.Dec.{eqb}
 use lib.IntN.{ℤ}
 use Rattle.numbers.specs.Progress.{signed}
-use Rattle.text.specs.declared.Schedule.{Schedule}
-use Rattle.text.specs.Marks.{marks}
-use Rattle.text.specs.Judgement.{scheduleNumbers}
-use Rattle.text.specs.Answers.{scheduleOf}
-use Rattle.text.specs.Demands.{scheduleRoom}
+use Rattle.text_rules.specs.declared.Schedule.{Schedule}
+use Rattle.text_rules.specs.Marks.{marks}
+use Rattle.text_rules.specs.Judgement.{scheduleNumbers}
+use Rattle.text_rules.specs.Answers.{scheduleOf}
+use Rattle.text_rules.specs.Demands.{scheduleRoom}
 use Rattle.lines.specs.Line.{Line, refusedLine, text}
 use Rattle.listing.specs.Steps.{runLines}
 

@@ -1,7 +1,7 @@
 // The listing of a text, written into an area that the caller lends: the text is judged, and its run is carried out in place.
 ghost use mathlib.Core.Path.{_≡_};
 ghost use lib.ListN.{length};
-ghost use Rattle.text.specs.Answers.{areaOf};
+ghost use Rattle.text_rules.specs.Answers.{areaOf};
 ghost use Rattle.listing.specs.Paper.{answerTo, areaAfter};
 
 mod paper;

@@ -2,9 +2,9 @@
 use mathlib.Core.List.{List}
 use Prim.Native.Nat.{ℕ}
 use denote.Ref.{RefT, now}
-use Rattle.text.specs.declared.Token.{Token}
-use Rattle.text.specs.Demands as D
-use Rattle.text.proofs.Demands.{scanner-finds-the-marks}
+use Rattle.text_rules.specs.declared.Token.{Token}
+use Rattle.text_rules.specs.Demands as D
+use Rattle.text_rules.proofs.Demands.{scanner-finds-the-marks}
 use Rattle.scanner.specs.Demands.{Gives, ended, next, GivesTheMarks}
 
 gives : (text : RefT (List ℕ)) {place : ℕ} {ts : List Token} → D.Scans (now text) place ts → Gives (record { text = text; place = place }) ts

@@ -4,10 +4,10 @@ use mathlib.Core.List.{List, [], _∷_}
 use Prim.Native.Nat.{ℕ}
 use lib.ListN.{length}
 use denote.Ref.{RefT, now}
-use Rattle.text.specs.declared.Kind.the-variants as kind
-use Rattle.text.specs.declared.Token.{Token}
-use Rattle.text.specs.Marks.{marks}
-use Rattle.text.specs.Demands.{tokensOf}
+use Rattle.text_rules.specs.declared.Kind.the-variants as kind
+use Rattle.text_rules.specs.declared.Token.{Token}
+use Rattle.text_rules.specs.Marks.{marks}
+use Rattle.text_rules.specs.Demands.{tokensOf}
 use Rattle.scanner.specs.declared.Scanner.{Scanner}
 use Rattle.scanner.specs.Scanning.{atStart, found, past}
 

@@ -2,8 +2,8 @@
 use Prim.Native.Nat.{ℕ}
 use mathlib.Core.List.{List}
 use denote.Ref.{RefT, now}
-use Rattle.text.specs.declared.Token.{Token}
-use Rattle.text.specs.Tokens.{tokenAt}
+use Rattle.text_rules.specs.declared.Token.{Token}
+use Rattle.text_rules.specs.Tokens.{tokenAt}
 use Rattle.scanner.specs.declared.Scanner.{Scanner}
 
 -- the scanner of a text, at its first byte

@@ -1,7 +1,7 @@
-// "A small scanner holds the text and its place in it." Its two functions are thin: the work is `text::token_at`, on the slice and the number.
+// "A small scanner holds the text and its place in it." Its two functions are thin: the work is `tokens::token_at`, on the slice and the number.
 ghost use mathlib.Core.Path.{_≡_};
 ghost use Rattle.scanner.specs.Scanning.{atStart, found, past};
-use text::Token;
+use text_rules::Token;
 
 pub struct Scanner<'a> {
     pub text: &'a [u8],
@@ -18,7 +18,7 @@ pub fn new<'a>(text: &'a [u8]) -> Scanner<'a>
 pub fn next<'s, 'a>(s: &'s mut Scanner<'a>) -> Token
     ensures { λ r. ⌜ (r ≡ found (now (s .entry))) × (now (s .exit) ≡ past (now (s .entry))) ⌝ }
 {
-    let t = text::token_at(s.text, s.place);
+    let t = tokens::token_at(s.text, s.place);
     s.place = t.end;
     t
 }

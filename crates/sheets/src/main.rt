@@ -3,7 +3,7 @@
 // fails ends the program.
 ghost use mathlib.Core.Path.{_≡_};
 ghost use lib.ListN.{length};
-ghost use Rattle.text.specs.Demands.{scheduleRoom};
+ghost use Rattle.text_rules.specs.Demands.{scheduleRoom};
 ghost use Rattle.listing.specs.Demands.{listingRoom};
 use libc::STDIN_FILENO;
 use libc::STDOUT_FILENO;

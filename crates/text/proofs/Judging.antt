@@ -1,42 +1,29 @@
 -- The judgement put together: what the passes found is what the definitions say.
 use mathlib.Core.Path.{_≡_, refl, sym, ap, _∙_}
-use mathlib.Core.Bool.{Bool, true, false, cond, not, true≢false, false≢true}
+use mathlib.Core.Bool.{Bool, true, false, cond, not, true≢false}
 use mathlib.Core.List.{List}
 use Prim.Native.Nat.{ℕ, _+_, _-_, _≤_, _<_}
 use native.Mathlib.Omega.{arith}
 use lib.Dec.{eqb, ltb}
 use lib.ListN.{length, drop}
 use lib.IntN.{ℤ}
-use borrow.Author.Tests.{lt-ltb, le-ltb, ltb-false, eq-eqb, eqb-true}
+use borrow.Author.Tests.{lt-ltb, le-ltb, eqb-true}
 use Rattle.numbers.specs.Fields.{natOf}
 use Rattle.rules.specs.declared.Opening.{Opening}
 use Rattle.rules.specs.Limits.{opens}
-use Rattle.text.specs.declared.Verdict.{Verdict}
+use Rattle.text_rules.specs.declared.Verdict.{Verdict}
 use Rattle.text.specs.declared.Head.{Head}
 use Rattle.text.specs.declared.Row.{Row}
 use Rattle.text.specs.declared.Survey.{Survey}
 use Rattle.text.specs.declared.Heading.{Heading}
-use Rattle.text.specs.Marks.{Mark, marks}
-use Rattle.text.specs.Lines.{headLine, fromHead, lineNumbers, afterLine, leftAfter, numbersOf}
-use Rattle.text.specs.Judgement.{maxBytes, headerNumbers, ruled, granted, isGranted, given, faultFrom, openingOf, headOf, headVerdict, headerVerdict, scheduleMarks, scheduleNumbers, strangerLine, bodyVerdict, scheduleVerdict}
-use Rattle.text.specs.Answers.{noOpening, restPlace, filled, scheduleOf, areaOf}
+use Rattle.text_rules.specs.Marks.{Mark, marks}
+use Rattle.text_rules.specs.Lines.{headLine, fromHead, lineNumbers, afterLine, leftAfter, numbersOf}
+use Rattle.text_rules.specs.Judgement.{maxBytes, headerNumbers, ruled, granted, isGranted, given, faultFrom, openingOf, headOf, headVerdict, headerVerdict, scheduleMarks, bodyVerdict, scheduleVerdict}
+use Rattle.text_rules.specs.Answers.{noOpening, restPlace, filled, scheduleOf, areaOf}
+use Rattle.text_rules.proofs.Granted.{granted-first, header-granted, Granted, granted-is}
 use Rattle.text.specs.Passes.{FoundHead, FoundRow, tallyOf, FoundSurvey, refusedHeading, headingBy, FoundHeading}
 
 -- ---- tests
-
--- a test that is passed
-pub passed : (b : Bool) (v rest : Verdict) → isGranted v ≡ false → isGranted (given b v rest) ≡ true → (b ≡ false) × (isGranted rest ≡ true)
-passed true v rest n g = absurd (false≢true (sym n ∙ g))
-passed false v rest n g = (refl, g)
-
--- a judgement that grants goes on to the next
-granted-first : (b : Bool) (v rest : Verdict) → isGranted v ≡ b → isGranted (given (not b) v rest) ≡ true → (b ≡ true) × (isGranted rest ≡ true)
-granted-first true v rest e g = (refl, g)
-granted-first false v rest e g = absurd (false≢true (sym e ∙ g))
-
-not-not : (b : Bool) → not b ≡ false → b ≡ true
-not-not true e = refl
-not-not false e = absurd (true≢false e)
 
 -- the later tests count only where the earlier ones grant
 later-tests : (b : Bool) (v x y : Verdict) → isGranted v ≡ b → (isGranted v ≡ true → x ≡ y) → given (not b) v x ≡ given (not b) v y
@@ -48,15 +35,6 @@ later-tests false v x y e h = refl
 pub long-verdict : (n : ℕ) (ms : List Mark) → maxBytes < n → ruled 21 0 ≡ headerVerdict n ms
 unfolding headerVerdict
 long-verdict n ms h = rw (lt-ltb maxBytes n h)
-
-pub header-granted : (n : ℕ) (ms : List Mark) → isGranted (headerVerdict n ms) ≡ true → (ltb maxBytes n ≡ false) × (isGranted (faultFrom 1 ms) ≡ true) × (opens (openingOf (headOf ms)) ≡ true)
-unfolding headerVerdict headVerdict
-header-granted n ms g =
-    let first = passed (ltb maxBytes n) (ruled 21 0) _ refl g in
-    let second = granted-first (isGranted (faultFrom 1 ms)) (faultFrom 1 ms) _ refl (first .1) in
-    let third = passed (not (eqb (length (headOf ms)) headerNumbers)) (ruled 24 (headLine 1 ms)) _ refl (second .1) in
-    let fourth = passed (not (opens (openingOf (headOf ms)))) (ruled 20 (headLine 1 ms)) granted refl (third .1) in
-    (first .0, second .0, not-not (opens (openingOf (headOf ms))) (fourth .0))
 
 pub refused-heading : (text : List ℕ) (v : Verdict) → v ≡ headerVerdict (length text) (marks text) → isGranted v ≡ false → FoundHeading text (refusedHeading v (length text))
 unfolding restPlace
@@ -133,30 +111,6 @@ module _ (text : List ℕ) (teams : ℕ) (head : Head) (row : Row) (survey : Sur
   found-heading v o p q e = heading-by (isGranted v) v o p q e refl
 
 -- ---- the schedule
-
--- what a granted schedule tells
-pub record Granted (room n : ℕ) (ms : List Mark) : Type 0 where
-  pub header : isGranted (headerVerdict n ms) ≡ true
-  pub teams : strangerLine ms ≡ 0
-  pub fits : length (scheduleNumbers ms) ≤ room
-
-body-granted : (room : ℕ) (ms : List Mark) → isGranted (bodyVerdict room ms) ≡ true → (strangerLine ms ≡ 0) × (length (scheduleNumbers ms) ≤ room)
-unfolding bodyVerdict
-body-granted room ms g =
-    let first = passed (not (eqb (strangerLine ms) 0)) (ruled 26 (strangerLine ms)) _ refl g in
-    let second = passed (ltb room (length (scheduleNumbers ms))) (ruled 27 0) granted refl (first .1) in
-    (eqb-true (strangerLine ms) 0 (not-not (eqb (strangerLine ms) 0) (first .0)), ltb-false room (length (scheduleNumbers ms)) (second .0))
-
-pub schedule-granted : (room n : ℕ) (ms : List Mark) → isGranted (scheduleVerdict room n ms) ≡ true → Granted room n ms
-unfolding scheduleVerdict
-schedule-granted room n ms g =
-    let first = granted-first (isGranted (headerVerdict n ms)) (headerVerdict n ms) (bodyVerdict room ms) refl g in
-    let second = body-granted room ms (first .1) in
-    record { header = first .0; teams = second .0; fits = second .1 }
-
-pub granted-is : (room n : ℕ) (ms : List Mark) → Granted room n ms → scheduleVerdict room n ms ≡ granted
-unfolding scheduleVerdict bodyVerdict
-granted-is room n ms g = rw (g .header, eq-eqb (strangerLine ms) 0 (g .teams), le-ltb room (length (scheduleNumbers ms)) (g .fits))
 
 module _ (text : List ℕ) (room : ℕ) (h : Heading) (f : FoundHeading text h) where
   pub schedule-verdict : (short body v : Verdict)

@@ -12,19 +12,20 @@ use lib.ListN.{length, set, drop, length-set, length-map}
 use lib.Seq.{sets, set-out, sets-eq}
 use Rattle.numbers.specs.Progress.{signed}
 use borrow.Author.Tests.{eq-eqb, ne-eqb, eqb-true}
-use Rattle.text.specs.declared.Verdict.{Verdict}
-use Rattle.text.specs.declared.Token.{Token}
+use Rattle.text_rules.specs.declared.Verdict.{Verdict}
+use Rattle.text_rules.specs.declared.Token.{Token}
 use Rattle.text.specs.declared.Row.{Row}
 use Rattle.text.specs.declared.Tally.{Tally}
-use Rattle.text.specs.Marks.{Mark, lineEnd, number, wrong, marks}
-use Rattle.text.specs.Digits.{tooLarge, numberOf}
-use Rattle.text.specs.Lines.{headLine, fromHead, lineNumbers, afterLine, leftAfter, numbersOf}
-use Rattle.text.specs.Judgement.{maxBytes, granted, ruled, isGranted, given, faultFrom, openingOf, isTeam, strangerFrom}
-use Rattle.text.specs.Tokens.{tokenOf, isNumber, isWrong, isLineEnd, lineAfter, faultOf, isStranger}
+use Rattle.text_rules.specs.Marks.{Mark, lineEnd, number, wrong, marks}
+use Rattle.text_rules.specs.Digits.{tooLarge, numberOf}
+use Rattle.text_rules.specs.Lines.{headLine, fromHead, lineNumbers, afterLine, leftAfter, numbersOf}
+use Rattle.text_rules.specs.Judgement.{maxBytes, granted, ruled, isGranted, given, faultFrom, openingOf, isTeam, strangerFrom}
+use Rattle.text_rules.specs.Tokens.{tokenOf}
+use Rattle.tokens.specs.Asked.{isNumber, isWrong, isLineEnd, lineAfter, faultOf, isStranger}
 use Rattle.text.specs.Passes.{FoundHead, rowAfter, WholeRow, FoundRow, earlierOf, tallyAfter, FoundSurvey}
-use Rattle.text.specs.Answers.{filled}
-use Rattle.text.proofs.Scanning.{later, Moves}
-use Rattle.text.proofs.Values.{number-large}
+use Rattle.text_rules.specs.Answers.{filled}
+use Rattle.text_rules.proofs.Marks.{later, Moves}
+use Rattle.text_rules.proofs.Digits.{number-large}
 
 -- ---- lines: each token ends at most one
 line-most : (b : Bool) (line : ℕ) → cond b (line + 1) line ≤ line + 1

@@ -1,10 +1,2 @@
--- Document 01's text, in its own order: bytes, the marks they make, numbers, lines, the judgement, the readers' answers; then the demands.
-pub mod Bytes
-pub mod Marks
-pub mod Digits
-pub mod Lines
-pub mod Judgement
-pub mod Answers
-pub mod Tokens
+-- What the passes over a text find.
 pub mod Passes
-pub mod Demands

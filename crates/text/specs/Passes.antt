@@ -1,30 +1,22 @@
 -- What the passes over a text find, each in terms of its marks.
 use mathlib.Core.Path.{_≡_}
-use Prim.Native.Nat.{ℕ, _+_, _-_, _≤_, _<_}
-use mathlib.Core.Bool.{true, false, cond, not}
+use Prim.Native.Nat.{ℕ, _+_, _-_, _≤_}
+use mathlib.Core.Bool.{true, cond, not}
 use mathlib.Core.List.{List}
 use lib.Dec.{eqb}
-use lib.ListN.{length, getD, set, drop}
-use Rattle.text.specs.declared.Verdict.{Verdict}
+use lib.ListN.{length, set, drop}
+use Rattle.text_rules.specs.declared.Verdict.{Verdict}
 use Rattle.text.specs.declared.Head.{Head}
 use Rattle.text.specs.declared.Row.{Row}
-use Rattle.text.specs.declared.Token.{Token}
+use Rattle.text_rules.specs.declared.Token.{Token}
 use Rattle.text.specs.declared.Tally.{Tally}
 use Rattle.text.specs.declared.Survey.{Survey}
 use Rattle.text.specs.declared.Heading.{Heading}
-use Rattle.text.specs.Bytes.{classOf}
-use Rattle.text.specs.Marks.{Mark, marks}
-use Rattle.text.specs.Lines.{headLine, fromHead, lineNumbers, afterLine, leftAfter, numbersOf}
-use Rattle.text.specs.Judgement.{maxBytes, ruled, isGranted, given, faultFrom, openingOf, headerVerdict, scheduleMarks, teamsOf, strangerFrom}
-use Rattle.text.specs.Answers.{noOpening, opensAs, restPlace}
-use Rattle.text.specs.Tokens.{stops, isNumber, faultOf, isStranger}
-
--- nothing is said between the place and r, and a mark begins at r
-pub record Skipped (text : List ℕ) (place r : ℕ) : Type 0 where
-  pub from : place ≤ r
-  pub within : place ≤ length text → r ≤ length text
-  pub same : marks (drop r text) ≡ marks (drop place text)
-  pub first : r < length text → stops false (classOf (getD text r 0)) ≡ true
+use Rattle.text_rules.specs.Marks.{Mark, marks}
+use Rattle.text_rules.specs.Lines.{headLine, fromHead, lineNumbers, afterLine, leftAfter, numbersOf}
+use Rattle.text_rules.specs.Judgement.{maxBytes, ruled, isGranted, given, faultFrom, openingOf, headerVerdict, scheduleMarks, teamsOf, strangerFrom}
+use Rattle.text_rules.specs.Answers.{noOpening, opensAs, restPlace}
+use Rattle.tokens.specs.Asked.{isNumber, faultOf, isStranger}
 
 -- the place of the first number, and its line; a wrong byte before it is where the next pass begins
 pub record FoundHead (text : List ℕ) (r : Head) : Type 0 where

@@ -44,17 +44,17 @@ use denote.Triple.Call.{calls-at}
 use denote.Triple.Clauses.{ensured, lasts}
 use denote.Triple.Table.{entered, cited}
 use denote.Triple.Walked.{says, Stays, stay-ref, walkOf, goes-ref, Walks, ends-at, walked, walk-meets}
-use Rattle.text.specs.Tokens.{tokenAt}
+use Rattle.text_rules.specs.Tokens.{tokenAt}
 use Rattle.scanner.specs.declared.Scanner.{Scanner}
-use Rattle.text.specs.declared.Token.{Token}
+use Rattle.text_rules.specs.declared.Token.{Token}
 use Rattle.scanner.proofs.Scanner as T
 use Rattle.scanner.proofs.Scanner.Laws as T′
-use Rattle.text.proofs.Token as O
-use Rattle.text.proofs.Token.Laws as O′
-use Rattle.text.proofs.token_at as token-at
-use Rattle.text.proofs.token_at.Symbol as token-at-def
-use Rattle.text.proofs.token_at.Symbol.{name as #text·token-at}
-use Rattle.text.proofs.token_at.Met as token-at-thm
+use Rattle.text_rules.proofs.Token as O
+use Rattle.text_rules.proofs.Token.Laws as O′
+use Rattle.tokens.proofs.token_at as token-at
+use Rattle.tokens.proofs.token_at.Symbol as token-at-def
+use Rattle.tokens.proofs.token_at.Symbol.{name as #tokens·token-at}
+use Rattle.tokens.proofs.token_at.Met as token-at-thm
 use Rattle.scanner.proofs.next.Key.{name as #scanner·next}
 use Rattle.scanner.proofs.next as next
 use Rattle.scanner.proofs.next.Statement as stated
@@ -144,7 +144,7 @@ module _ {M : Type 1} (𝓤 : URA M) (H : Heap 𝓤) (A : Atoms 𝓤) (W : Given
       move ! (2 ∷ 3 ∷ []) $ join ! $ frame ! $ feqI ! (List Val) (vptr b o ∷ []) (vptr b o ∷ []) refl $ fjoin3 ! $ nothing ! $ move ! (1 ∷ 0 ∷ []) $ fjoin ! $
       owned ! O.the-row (Is O.the-row) (LL.makes O.the-type O′.the-plain 𝓤 H A) r _ is $ move ! (1 ∷ 0 ∷ []) $ done !
 
-  module _ (C : Calls 𝓤 H) (Λ : Loops 𝓤 H) (fm : FmC 𝓤 H (W .laws) C) (known : Triple 𝓤 (C #text·token-at) (TokenAt 𝓤 H A at-mem run)) where
+  module _ (C : Calls 𝓤 H) (Λ : Loops 𝓤 H) (fm : FmC 𝓤 H (W .laws) C) (known : Triple 𝓤 (C #tokens·token-at) (TokenAt 𝓤 H A at-mem run)) where
     walk : ent 𝓤 (onEntry 𝓤 H A next.signature (κ, (κ′, tt)) (q, (q′, tt)) x at) (WpFn 𝓤 H C Λ code.function (vptr b o ∷ []) Post)
     walk =
         qed W ((‵ (flft κ q) ⊛ ‵ (flft κ′ q′) ⊛ ‵ ftrue) ∷ ‵ (owns (MutRef (named 0) κ R ∷ []) x at) ∷ []) ∵ enter ! C Λ code.function (vptr b o ∷ []) _ $
@@ -180,11 +180,11 @@ module _ {M : Type 1} (𝓤 : URA M) (H : Heap 𝓤) (A : Atoms 𝓤) (W : Given
         keep ! (0 ∷ 1 ∷ 2 ∷ 3 ∷ []) $ by ! (exits r _ e is′))))))))))))
 
 module _ {M : Type 1} (𝓤 : URA M) (H : Heap 𝓤) (A : Atoms 𝓤) (W : Given 𝓤 H A) (mem : Memory → SProp 𝓤) (run : Routine → Fun 𝓤) where
-  next-walks : (C : Calls 𝓤 H) (Λ : Loops 𝓤 H) → FmC 𝓤 H (W .laws) C → Triple 𝓤 (C #text·token-at) (TokenAt 𝓤 H A mem run) → Walks 𝓤 H A next.ended stayed (WpFn 𝓤 H C Λ code.function) (next.clauses 𝓤 H A mem run)
+  next-walks : (C : Calls 𝓤 H) (Λ : Loops 𝓤 H) → FmC 𝓤 H (W .laws) C → Triple 𝓤 (C #tokens·token-at) (TokenAt 𝓤 H A mem run) → Walks 𝓤 H A next.ended stayed (WpFn 𝓤 H C Λ code.function) (next.clauses 𝓤 H A mem run)
   next-walks C Λ fm known = walked 𝓤 H A next.ended stayed (next.clauses 𝓤 H A mem run) (WpFn 𝓤 H C Λ code.function) (λ κs. (ptr-vals, tt)) (λ κs. (mut-tells (named 0) (κs .0) (T.the-row (namedLft 2 1 tt κs)), tt))
       (λ κs qs bounds a g are. via 𝓤 _ (fst∗ 𝓤 _ (emp 𝓤)) (walk 𝓤 H A W mem run (κs .0) (κs .1 .0) (qs .0) (qs .1 .0) bounds (a .0 .ptr .0) (a .0 .ptr .1) (a .0 .name) (a .0 .now) C Λ fm known))
 
-next-meets : {M : Type 1} (𝓤 : URA M) (H : Heap 𝓤) (A : Atoms 𝓤) → Given 𝓤 H A → (mem : Memory → SProp 𝓤) (run : Routine → Fun 𝓤) (𝓣 : Tables 𝓤 H) → Triple 𝓤 (𝓣 .C #text·token-at) (TokenAt 𝓤 H A mem run)
+next-meets : {M : Type 1} (𝓤 : URA M) (H : Heap 𝓤) (A : Atoms 𝓤) → Given 𝓤 H A → (mem : Memory → SProp 𝓤) (run : Routine → Fun 𝓤) (𝓣 : Tables 𝓤 H) → Triple 𝓤 (𝓣 .C #tokens·token-at) (TokenAt 𝓤 H A mem run)
     → Meets 𝓤 H A next.signature (WpFn 𝓤 H (𝓣 .C) (𝓣 .Λ) code.function) (next.spec 𝓤 H A mem run)
 next-meets 𝓤 H A W mem run 𝓣 known = walk-meets 𝓤 H A next.ended stayed W (goes-ref 𝓤 H A W 2 0 tt behind, tt) (next.clauses 𝓤 H A mem run) (WpFn 𝓤 H (𝓣 .C) (𝓣 .Λ) code.function) (WpFn-mono 𝓤 H (W .laws) 𝓣 code.function)
     (next-walks 𝓤 H A W mem run (𝓣 .C) (𝓣 .Λ) (fmOf 𝓤 H (W .laws) 𝓣) known)
@@ -195,4 +195,4 @@ next-spec 𝓤 H 𝓜 𝓖 𝓡 =
     entered 𝓤 H (tripleOf 𝓤 H (𝓖 .A) next.signature (next.spec 𝓤 H (𝓖 .A) (𝓜 .mem) (𝓡 .run)))
     (tables 𝓤 H 𝓜 𝓡 code.env .C) (tables 𝓤 H 𝓜 𝓡 code.env .Λ) #scanner·next code.function (code.unfolded 𝓤 H 𝓜 𝓡)
     (next-meets 𝓤 H (𝓖 .A) (givenOf 𝓤 H 𝓜 𝓖) (𝓜 .mem) (𝓡 .run) (tablesOf 𝓤 H 𝓜 (tables 𝓤 H 𝓜 𝓡 code.env))
-    (cited 𝓤 H (TokenAt 𝓤 H (𝓖 .A) (𝓜 .mem) (𝓡 .run)) 𝓜 𝓡 code.env #text·token-at token-at-def.routine code.calls-text·token-at (token-at-thm.met 𝓤 H 𝓜 𝓖 𝓡)))
+    (cited 𝓤 H (TokenAt 𝓤 H (𝓖 .A) (𝓜 .mem) (𝓡 .run)) 𝓜 𝓡 code.env #tokens·token-at token-at-def.routine code.calls-tokens·token-at (token-at-thm.met 𝓤 H 𝓜 𝓖 𝓡)))

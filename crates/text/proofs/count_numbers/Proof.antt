@@ -6,8 +6,8 @@ use native.Mathlib.Omega.{arith}
 use lib.ListN.{length, drop}
 use borrow.Author.Tests.{ne-eqb}
 use borrow.Author.Needs.{needs}
-use Rattle.text.specs.Marks.{marks}
-use Rattle.text.proofs.Scanning.{Moves, moves, at-end}
+use Rattle.text_rules.specs.Marks.{marks}
+use Rattle.text_rules.proofs.Marks.{Moves, moves, at-end}
 use Rattle.text.proofs.Passing.{Tallying, tally-next, tally-stops, tally-ends}
 use Rattle.text.proofs.count_numbers.Statement.{statement}
 use Rattle.text.proofs.count_numbers.Tie as tie

@@ -6,8 +6,8 @@ use native.Mathlib.Omega.{arith}
 use lib.ListN.{length, drop}
 use borrow.Author.Needs.{needs}
 use Rattle.numbers.proofs.Signed.{told}
-use Rattle.text.specs.Marks.{marks}
-use Rattle.text.proofs.Scanning.{moves, at-end}
+use Rattle.text_rules.specs.Marks.{marks}
+use Rattle.text_rules.proofs.Marks.{moves, at-end}
 use Rattle.text.proofs.Passing.{Filling, fill-number, fill-room, fill-other, fill-ends}
 use Rattle.text.proofs.fill.Statement.{statement}
 use Rattle.text.proofs.fill.Tie as tie

@@ -5,8 +5,8 @@ use Prim.Native.Nat.{_-_}
 use native.Mathlib.Omega.{arith}
 use lib.ListN.{length}
 use borrow.Author.Needs.{needs}
-use Rattle.text.specs.Tokens.{isNumber, isWrong}
-use Rattle.text.proofs.Scanning.{Moves, moves, at-end}
+use Rattle.tokens.specs.Asked.{isNumber, isWrong}
+use Rattle.text_rules.proofs.Marks.{Moves, moves, at-end}
 use Rattle.text.proofs.Passing.{Seeking, seek-next, seek-here, seek-none}
 use Rattle.text.proofs.find_head.Statement.{statement}
 use Rattle.text.proofs.find_head.Tie as tie

@@ -5,8 +5,8 @@ use Prim.Native.Nat.{ℕ}
 use lib.ListN.{length}
 use Rattle.numbers.proofs.Signed.{told}
 use Rattle.numbers.specs.Fields.{natOf}
-use Rattle.text.specs.Marks.{marks}
-use Rattle.text.specs.Judgement.{ruled, headerVerdict}
+use Rattle.text_rules.specs.Marks.{marks}
+use Rattle.text_rules.specs.Judgement.{ruled, headerVerdict}
 use Rattle.text.proofs.Judging.{long-verdict, refused-heading, found-verdict, found-heading}
 use borrow.Author.Needs.{needs}
 use Rattle.text.proofs.judge_header.Statement.{statement}

@@ -1,5 +1,5 @@
 -- The header's answer is a part of its judgement.
-use Rattle.text.specs.Answers.{headerOf}
+use Rattle.text_rules.specs.Answers.{headerOf}
 use borrow.Author.Needs.{needs}
 use Rattle.text.proofs.read_header.Statement.{statement}
 use Rattle.text.proofs.read_header.Tie as tie

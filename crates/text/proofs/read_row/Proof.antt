@@ -7,10 +7,10 @@ use lib.Dec.{eqb}
 use lib.ListN.{length, drop}
 use borrow.Author.Needs.{needs}
 use Rattle.text.specs.declared.Row.{Row}
-use Rattle.text.specs.Marks.{marks}
-use Rattle.text.specs.Tokens.{isLineEnd, faultOf}
+use Rattle.text_rules.specs.Marks.{marks}
+use Rattle.tokens.specs.Asked.{isLineEnd, faultOf}
 use Rattle.text.specs.Passes.{rowAfter}
-use Rattle.text.proofs.Scanning.{Moves, moves, at-end}
+use Rattle.text_rules.proofs.Marks.{Moves, moves, at-end}
 use Rattle.text.proofs.Passing.{Rowing, row-next, row-ends, row-stops}
 use Rattle.text.proofs.read_row.Statement.{statement}
 use Rattle.text.proofs.read_row.Tie as tie

@@ -5,9 +5,10 @@ use Prim.Native.Nat.{ℕ}
 use lib.IntN.{ℤ}
 use lib.ListN.{length}
 use borrow.Author.Tests.{eq-eqb, ne-eqb}
-use Rattle.text.specs.Marks.{marks}
-use Rattle.text.specs.Judgement.{scheduleVerdict}
-use Rattle.text.proofs.Judging.{Granted, schedule-granted, schedule-verdict, granted-room, granted-answer, granted-area, refused-answer, refused-area}
+use Rattle.text_rules.specs.Marks.{marks}
+use Rattle.text_rules.specs.Judgement.{scheduleVerdict}
+use Rattle.text.proofs.Judging.{schedule-verdict, granted-room, granted-answer, granted-area, refused-answer, refused-area}
+use Rattle.text_rules.proofs.Granted.{Granted, schedule-granted}
 use borrow.Author.Needs.{needs}
 use Rattle.text.proofs.read_schedule.Statement.{statement}
 use Rattle.text.proofs.read_schedule.Tie as tie

@@ -1,7 +1,7 @@
 -- The part begins where the judgement says that the rest does.
 use mathlib.Core.Path.{refl}
 use borrow.Rule.Slice.PartAt.{part-to-end}
-use Rattle.text.specs.Answers.{restOf}
+use Rattle.text_rules.specs.Answers.{restOf}
 use borrow.Author.Needs.{needs}
 use Rattle.text.proofs.rest.Statement.{statement}
 use Rattle.text.proofs.rest.Tie as tie

@@ -6,7 +6,7 @@ use native.Mathlib.Omega.{arith}
 use Prim.Native.Nat.{_≤_}
 use lib.ListN.{length}
 use lib.Seq.{set-out}
-use Rattle.text.specs.Tokens.{isNumber}
+use Rattle.tokens.specs.Asked.{isNumber}
 use Rattle.text.specs.Passes.{rowAfter}
 use borrow.Author.Needs.{needs}
 use Rattle.text.proofs.taken.Statement.{statement}

@@ -1,7 +1,7 @@
 -- A number counts, and the first that is no team's gives its line.
 use mathlib.Core.Path.{_≡_, sym, _∙_}
 use mathlib.Core.Bool.{true, false}
-use Rattle.text.specs.Tokens.{isNumber}
+use Rattle.tokens.specs.Asked.{isNumber}
 use Rattle.text.specs.Passes.{tallyAfter}
 use borrow.Author.Needs.{needs}
 use Rattle.text.proofs.tallied.Statement.{statement}

@@ -1,0 +1,280 @@
+-- The proofs of specs/Demands.antt.
+use mathlib.Core.Path.{_≡_, refl, sym, ap, subst, _∙_}
+use mathlib.Core.Bool.{Bool, true, false, cond, not, _&&_, _||_, true≢false, false≢true}
+use mathlib.Core.List.{List, [], _∷_}
+use Prim.Native.Nat.{ℕ, suc, _+_, _*_, _≤_, _<_}
+use native.Mathlib.Omega.{arith}
+use lib.Dec.{eqb, leb, ltb}
+use lib.ListN.{length, drop}
+use lib.IntN.{pos}
+use borrow.Author.Tests.{eq-eqb, leb-true, ltb-true, ltb-false, le-ltb}
+use Rattle.numbers.proofs.Laws.{signed-is}
+use Rattle.numbers.specs.Progress.{signed}
+use Rattle.rules.specs.Limits.{opens}
+use Rattle.text_rules.specs.declared.Class.{Class}
+use Rattle.text_rules.specs.declared.Class.the-variants.{LineEnd, Hash, Blank, Digit, Other}
+use Rattle.text_rules.specs.declared.Verdict.{Verdict}
+use Rattle.text_rules.specs.declared.Token.{Token}
+use Rattle.text_rules.specs.Bytes.{classOf, isDigit}
+use Rattle.text_rules.specs.Marks.{Mark, lineEnd, number, wrong, inComment, startsDigit, longer, added, marksFrom, marks}
+use Rattle.text_rules.specs.Digits.{value, tooLarge, numberOf}
+use Rattle.text_rules.specs.Lines.{headLine, fromHead, afterLine, numbersOf}
+use Rattle.text_rules.specs.Judgement.{maxBytes, headerNumbers, ruled, granted, isGranted, given, faultFrom, openingOf, headOf, headVerdict, headerVerdict, scheduleMarks, scheduleNumbers, teamsOf, strangerFrom, strangerLine, bodyVerdict, scheduleVerdict}
+use Rattle.text_rules.specs.Answers.{headerOf, restPlace, scheduleOf, areaOf}
+use Rattle.text_rules.specs.declared.Kind.the-variants as kind
+use Rattle.text_rules.specs.Tokens.{tokenOf, tokenAt}
+use Rattle.text_rules.specs.Demands.{scheduleRoom, SameButComments, nothing, same, other, CommentsNeverMatter, AllTeams, none, more, GrantedIsWithinLimits, AllExact, exact, GrantedIsExact, NeverShort, Scans, ended, found, tokensOf, ScannerFindsTheMarks}
+use Rattle.text_rules.proofs.Marks.{later, moves, at-end}
+use Rattle.text_rules.proofs.Digits.{small-value}
+use Rattle.text_rules.proofs.Granted.{passed, header-granted, schedule-granted, granted-is}
+
+-- ---- comments never matter
+same-length : {c : Bool} {s t : List ℕ} → SameButComments c s t → length s ≡ length t
+same-length nothing = refl
+same-length (same b r) = ap suc (same-length r)
+same-length (other a b p q r) = ap suc (same-length r)
+
+same-start : {s t : List ℕ} → SameButComments false s t → startsDigit s ≡ startsDigit t
+same-start nothing = refl
+same-start (same b r) = refl
+
+-- the same byte before texts of which the marks, the length and the first byte's class are the same
+added-same : (c : Bool) (k : Class) (b : ℕ) (s t : List ℕ) → SameButComments (inComment c k) s t → (ms : List Mark) → added c k b s ms ≡ added c k b t ms
+added-same c LineEnd b s t r ms = rw (same-length r)
+added-same c Hash b s t r ms = refl
+added-same c Blank b s t r ms = refl
+added-same true Digit b s t r ms = refl
+added-same false Digit b s t r ms = rw (same-length r, same-start r)
+added-same true Other b s t r ms = refl
+added-same false Other b s t r ms = rw (same-length r)
+
+-- inside a comment, a byte that is no LF says nothing, and the comment goes on
+record Quiet (k : Class) : Type 0 where
+  says : (b : ℕ) (bs : List ℕ) (ms : List Mark) → added true k b bs ms ≡ ms
+  stays : inComment true k ≡ true
+
+quiet : (h w d : Bool) → Quiet (cond h Hash (cond w Blank (cond d Digit Other)))
+quiet true w d = record { says = λ b bs ms. refl; stays = refl }
+quiet false true d = record { says = λ b bs ms. refl; stays = refl }
+quiet false false true = record { says = λ b bs ms. refl; stays = refl }
+quiet false false false = record { says = λ b bs ms. refl; stays = refl }
+
+quiet-byte : (b : ℕ) → eqb b 10 ≡ false → Quiet (classOf b)
+unfolding classOf
+quiet-byte b e = rw e (quiet (eqb b 35) (eqb b 32 || eqb b 9 || eqb b 13) (leb 48 b && leb b 57))
+
+passed-over : (b : ℕ) (bs : List ℕ) → eqb b 10 ≡ false → marksFrom true (b ∷ bs) ≡ marksFrom true bs
+unfolding marksFrom
+passed-over b bs e = let q = quiet-byte b e in rw (q .stays) (q .says b bs (marksFrom true bs))
+
+pub same-marks : {c : Bool} {s t : List ℕ} → SameButComments c s t → marksFrom c s ≡ marksFrom c t
+unfolding marksFrom
+same-marks nothing = refl
+same-marks {c} (same {s = s} {t = t} b r) = rw (same-marks r) (added-same c (classOf b) b s t r _)
+same-marks (other {s = s} {t = t} a b p q r) = passed-over a s p ∙ same-marks r ∙ sym (passed-over b t q)
+
+pub comments-never-matter : CommentsNeverMatter
+unfolding headerOf restPlace scheduleOf areaOf
+comments-never-matter s t r =
+    let marked = same-marks r in
+    let sized = same-length r in
+    record {
+      header = rw (marked, sized);
+      rest = rw (marked, sized);
+      schedule = λ room. rw (marked, sized);
+      area = λ area. rw (marked, sized);
+    }
+
+-- ---- what is granted lies within the limits
+one-team : (teams line n rest : ℕ) (a b : Bool) → leb 1 n ≡ a → leb n teams ≡ b → 1 ≤ line → cond (a && b) rest line ≡ 0 → (1 ≤ n) × (n ≤ teams) × (rest ≡ 0)
+one-team teams line n rest true true p q h e = (leb-true 1 n p, leb-true n teams q, e)
+one-team teams line n rest true false p q h e = absurd (omega (arith, e))
+one-team teams line n rest false b p q h e = absurd (omega (arith, e))
+
+all-teams : (teams line : ℕ) (ms : List Mark) → 1 ≤ line → strangerFrom teams line ms ≡ 0 → AllTeams teams (numbersOf ms)
+unfolding strangerFrom numbersOf
+all-teams teams line [] h e = none
+all-teams teams line (lineEnd k ∷ ms) h e = all-teams teams (line + 1) ms (omega arith) e
+all-teams teams line (number ds k ∷ ms) h e =
+    let n = numberOf ds in
+    let one = one-team teams line n (strangerFrom teams line ms) (leb 1 n) (leb n teams) refl refl h e in
+    more (one .0) (one .1) (all-teams teams line ms h (one .2))
+all-teams teams line (wrong k ∷ ms) h e = all-teams teams line ms h e
+
+pub granted-within-limits : GrantedIsWithinLimits
+unfolding scheduleOf
+granted-within-limits room text e =
+    let n = length text in
+    let ms = marks text in
+    let g = schedule-granted room n ms (eq-eqb (scheduleVerdict room n ms .code) 0 e) in
+    let is = granted-is room n ms g in
+    record {
+      opening = rw is (header-granted n ms (g .header) .2);
+      teams = rw is (all-teams (teamsOf ms) (headLine 1 ms + 1) (scheduleMarks ms) (omega arith) (g .teams));
+      count = rw is;
+      fits = g .fits;
+    }
+
+-- ---- what is granted is exact
+exact-number : (t : Bool) (ds : List ℕ) → tooLarge ds ≡ t → t ≡ false → signed (numberOf ds) ≡ pos (value ds)
+unfolding numberOf
+exact-number true ds e f = absurd (true≢false f)
+exact-number false ds e f = rw e (signed-is (value ds) (small-value ds e))
+
+all-exact : (line : ℕ) (ms : List Mark) → isGranted (faultFrom line ms) ≡ true → AllExact ms
+unfolding faultFrom
+all-exact line [] g = none
+all-exact line (lineEnd k ∷ ms) g = AllExact.line (all-exact (line + 1) ms g)
+all-exact line (number ds k ∷ ms) g =
+    let p = passed (tooLarge ds) (ruled 23 line) (faultFrom line ms) refl g in
+    exact (exact-number (tooLarge ds) ds refl (p .0)) (all-exact line ms (p .1))
+all-exact line (wrong k ∷ ms) g = absurd (false≢true g)
+
+pub granted-exact : GrantedIsExact
+unfolding headerOf
+granted-exact text e =
+    let n = length text in
+    let ms = marks text in
+    all-exact 1 ms (header-granted n ms (eq-eqb (headerVerdict n ms .code) 0 e) .1)
+
+-- ---- there is always room for 32,768 numbers: between two numbers stands a byte
+
+-- 1 where the bytes begin with a digit outside comments
+begun : Bool → List ℕ → ℕ
+begun c bs = cond (not c && startsDigit bs) 1 0
+
+abbrev count : List Mark → ℕ
+count ms = length (numbersOf ms)
+
+begun-most : (c : Bool) (bs : List ℕ) → begun c bs ≤ 1
+unfolding begun
+begun-most c bs = go (not c && startsDigit bs)
+  where
+    go : (b : Bool) → cond b 1 0 ≤ 1
+    go true = omega arith
+    go false = omega arith
+
+longer-count : (b : ℕ) (ms : List Mark) → count (longer b ms) ≡ count ms
+unfolding numbersOf
+longer-count b [] = refl
+longer-count b (lineEnd k ∷ ms) = refl
+longer-count b (number ds k ∷ ms) = refl
+longer-count b (wrong k ∷ ms) = refl
+
+digit-count : (t : Bool) (b : ℕ) (bs : List ℕ) (ms : List Mark) → 2 * count ms ≤ length bs + cond t 1 0 → 2 * count (cond t (longer b ms) (number (b ∷ []) (length bs) ∷ ms)) ≤ suc (length bs) + 1
+unfolding numbersOf
+digit-count true b bs ms h = rw (longer-count b ms) (omega arith)
+digit-count false b bs ms h = omega arith
+
+few : (c : Bool) (k : Class) (b : ℕ) (bs : List ℕ) (ms : List Mark) → 2 * count ms ≤ length bs + begun (inComment c k) bs → 2 * count (added c k b bs ms) ≤ suc (length bs) + cond (not c && isDigit k) 1 0
+unfolding begun numbersOf
+few c LineEnd b bs ms h = let m = begun-most false bs in omega (arith, m, h)
+few c Hash b bs ms h = let m = begun-most true bs in omega (arith, m, h)
+few c Blank b bs ms h = let m = begun-most c bs in omega (arith, m, h)
+few true Digit b bs ms h = let m = begun-most true bs in omega (arith, m, h)
+few false Digit b bs ms h = digit-count (startsDigit bs) b bs ms h
+few true Other b bs ms h = let m = begun-most true bs in omega (arith, m, h)
+few false Other b bs ms h = let m = begun-most false bs in omega (arith, m, h)
+
+few-marks : (c : Bool) (bs : List ℕ) → 2 * count (marksFrom c bs) ≤ length bs + begun c bs
+unfolding marksFrom begun numbersOf
+few-marks c [] = omega arith
+few-marks c (b ∷ bs) = few c (classOf b) b bs (marksFrom (inComment c (classOf b)) bs) (few-marks (inComment c (classOf b)) bs)
+
+head-fewer : (ms : List Mark) → count (fromHead ms) ≤ count ms
+unfolding fromHead numbersOf
+head-fewer [] = omega arith
+head-fewer (lineEnd k ∷ ms) = head-fewer ms
+head-fewer (number ds k ∷ ms) = omega arith
+head-fewer (wrong k ∷ ms) = head-fewer ms
+
+after-fewer : (ms : List Mark) → count (afterLine ms) ≤ count ms
+unfolding afterLine numbersOf
+after-fewer [] = omega arith
+after-fewer (lineEnd k ∷ ms) = omega arith
+after-fewer (number ds k ∷ ms) = omega (arith, after-fewer ms)
+after-fewer (wrong k ∷ ms) = after-fewer ms
+
+enough : (text : List ℕ) → length text ≤ maxBytes → length (scheduleNumbers (marks text)) ≤ scheduleRoom
+enough text h =
+    let ms = marks text in
+    omega (arith, after-fewer (fromHead ms), head-fewer ms, few-marks false text, begun-most false text)
+
+-- 27 is given by no other test
+Short : Verdict → Type 0
+Short v = v .code ≡ 27
+
+given-short : (b : Bool) (v rest : Verdict) → (Short v → ⊥) → (Short rest → ⊥) → Short (given b v rest) → ⊥
+unfolding Short
+given-short true v rest f g = f
+given-short false v rest f g = g
+
+fault-short : (line : ℕ) (ms : List Mark) → Short (faultFrom line ms) → ⊥
+unfolding faultFrom Short
+fault-short line [] e = omega (arith, e)
+fault-short line (lineEnd k ∷ ms) e = fault-short (line + 1) ms e
+fault-short line (number ds k ∷ ms) e = given-short (tooLarge ds) (ruled 23 line) (faultFrom line ms) (λ z. omega (arith, z)) (fault-short line ms) e
+fault-short line (wrong k ∷ ms) e = omega (arith, e)
+
+head-short : (ms : List Mark) → Short (headVerdict ms) → ⊥
+unfolding headVerdict Short
+head-short ms =
+    given-short
+    (not (eqb (length (headOf ms)) headerNumbers))
+    (ruled 24 (headLine 1 ms))
+    (given (not (opens (openingOf (headOf ms)))) (ruled 20 (headLine 1 ms)) granted)
+    (λ z. omega (arith, z))
+    (given-short (not (opens (openingOf (headOf ms)))) (ruled 20 (headLine 1 ms)) granted (λ z. omega (arith, z)) (λ z. omega (arith, z)))
+
+header-short : (n : ℕ) (ms : List Mark) → Short (headerVerdict n ms) → ⊥
+unfolding headerVerdict Short
+header-short n ms =
+    given-short
+    (ltb maxBytes n)
+    (ruled 21 0)
+    (given (not (isGranted (faultFrom 1 ms))) (faultFrom 1 ms) (headVerdict ms))
+    (λ z. omega (arith, z))
+    (given-short (not (isGranted (faultFrom 1 ms))) (faultFrom 1 ms) (headVerdict ms) (fault-short 1 ms) (head-short ms))
+
+body-short : (ms : List Mark) → length (scheduleNumbers ms) ≤ scheduleRoom → Short (bodyVerdict scheduleRoom ms) → ⊥
+unfolding bodyVerdict Short
+body-short ms h =
+    rw
+    (le-ltb scheduleRoom (length (scheduleNumbers ms)) h)
+    (given-short (not (eqb (strangerLine ms) 0)) (ruled 26 (strangerLine ms)) granted (λ z. omega (arith, z)) (λ z. omega (arith, z)))
+
+short-by : (b : Bool) (text : List ℕ) → isGranted (headerVerdict (length text) (marks text)) ≡ b → Short (given (not b) (headerVerdict (length text) (marks text)) (bodyVerdict scheduleRoom (marks text))) → ⊥
+short-by true text g = body-short (marks text) (enough text (ltb-false maxBytes (length text) (header-granted (length text) (marks text) g .0)))
+short-by false text g = header-short (length text) (marks text)
+
+pub never-short : NeverShort
+unfolding scheduleOf scheduleVerdict Short
+never-short text e = short-by (isGranted (headerVerdict (length text) (marks text))) text refl e
+
+-- ---- the scanner finds the marks
+
+none-there : (text : List ℕ) (place : ℕ) → marks (drop place text) ≡ [] → tokenAt text place .kind ≡ kind.End
+unfolding tokenAt tokenOf
+none-there text place e = rw e
+
+cons-nil : {A : Type 0} (a : A) (l : List A) → a ∷ l ≡ [] → ⊥
+cons-nil a l e = omega (arith, ap length e)
+
+-- a mark stands before the text's end
+before-mark : (text : List ℕ) (place : ℕ) (m : Mark) (ms : List Mark) → place ≤ length text → marks (drop place text) ≡ m ∷ ms → place < length text
+before-mark text place m ms h e = by (ltb place (length text)) refl
+  where
+    by : (b : Bool) → ltb place (length text) ≡ b → place < length text
+    by true t = ltb-true place (length text) t
+    by false t = absurd (cons-nil m ms (sym e ∙ at-end text place false (ltb-false place (length text) t)))
+
+scans : (text : List ℕ) (place : ℕ) (ms : List Mark) → place ≤ length text → marks (drop place text) ≡ ms → Scans text place (tokensOf (length text) ms)
+unfolding tokensOf
+scans text place [] h e = ended (none-there text place e)
+scans text place (m ∷ ms) h e =
+    let l = before-mark text place m ms h e in
+    let t = moves text place l (tokenAt text place) refl in
+    subst (λ (u : Token). Scans text place (u ∷ tokensOf (length text) ms)) (t .is ∙ ap (tokenOf (length text)) e) (found (scans text (tokenAt text place .end) ms (t .within) (t .rest ∙ ap later e)))
+
+pub scanner-finds-the-marks : ScannerFindsTheMarks
+scanner-finds-the-marks text = scans text 0 (marks text) (omega arith) refl

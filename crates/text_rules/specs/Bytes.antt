@@ -1,0 +1,21 @@
+-- What a byte is in a text. "LF alone ends a line; space, tab and CR are blanks."
+use Prim.Native.Nat.{ℕ}
+use mathlib.Core.Bool.{Bool, true, false, cond, _&&_, _||_}
+use lib.Dec.{eqb, leb}
+use Rattle.text_rules.specs.declared.Class.{Class}
+use Rattle.text_rules.specs.declared.Class.the-variants.{LineEnd, Hash, Blank, Digit, Other}
+
+unfoldable pub classOf : ℕ → Class
+classOf b =
+    cond (eqb b 10) LineEnd
+    (cond (eqb b 35) Hash
+    (cond (eqb b 32 || eqb b 9 || eqb b 13) Blank
+    (cond (leb 48 b && leb b 57) Digit
+    Other)))
+
+abbrev pub isDigit : Class → Bool
+isDigit LineEnd = false
+isDigit Hash = false
+isDigit Blank = false
+isDigit Digit = true
+isDigit Other = false
