@@ -1,19 +1,15 @@
-// The ledger: opening, well formed, the requests and the unclaimed count, each exactly as the definitions of `rules` say.
+// The ledger: opening, the requests and the unclaimed count, each exactly as the definitions of `rules` say.
 ghost use mathlib.Core.Path.{_≡_};
 ghost use Rattle.rules.specs.Opening.{opening};
-ghost use Rattle.rules.specs.WellFormed.{wellFormed};
 ghost use Rattle.rules.specs.Requests.{requested};
 ghost use Rattle.rules.specs.Count.{counted};
 use rules::Answered;
 use rules::Ledger;
 use rules::Opened;
 use rules::Opening;
-use rules::Outcome;
 use rules::Request;
 use rules::Unclaimed;
-use rules::View;
 
-mod forms;
 mod opens;
 mod table;
 
@@ -33,29 +29,13 @@ pub fn open(o: Opening) -> Opened
     }
 }
 
-// Whether a ledger, of any numbers at all, is well formed.
-pub fn well_formed(l: Ledger) -> bool
-    ensures { λ r. ⌜ r ≡ wellFormed l ⌝ }
-{
-    if forms::numbers_ok(l) {
-        let root = forms::root_ok(l);
-        let nodes = forms::nodes_ok(l);
-        let pairs = forms::pairs_ok(l);
-        let room = forms::room_ok(l);
-        let unused = forms::unused_ok(l);
-        root & nodes & pairs & room & unused
-    } else {
-        false
-    }
-}
-
 // One request: its answer, and the ledger after it. A refusal changes nothing.
 pub fn request(l: Ledger, r: Request) -> Answered
     ensures { λ x. ⌜ x ≡ requested l r ⌝ }
 {
-    if well_formed(l) {
+    if forms::well_formed(l) {
         let n = numbers::natural(r.node);
-        let o = nodes::decide(table::view_of(l, n), r);
+        let o = requests::decide(table::view_of(l, n), r);
         let c = o.change;
         let a = o.answer;
         let m = table::changed_by(l, n, c);
@@ -64,7 +44,7 @@ pub fn request(l: Ledger, r: Request) -> Answered
             answer: a,
         }
     } else {
-        let a = nodes::grants::refused_by(1);
+        let a = requests::refused_by(1);
         Answered {
             ledger: l,
             answer: a,
@@ -76,7 +56,7 @@ pub fn request(l: Ledger, r: Request) -> Answered
 pub fn count(l: Ledger) -> Unclaimed
     ensures { λ r. ⌜ r ≡ counted l ⌝ }
 {
-    if well_formed(l) {
+    if forms::well_formed(l) {
         let sum = table::unclaimed_in(l);
         Unclaimed {
             code: 0,

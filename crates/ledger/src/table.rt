@@ -1,7 +1,7 @@
-// The table of nodes: reading and storing one, sums over all of them, and a ledger after a change.
+// The table of nodes: reading and storing one, the unclaimed count, and a ledger after a change.
 ghost use mathlib.Core.Path.{_≡_};
 ghost use Prim.Native.Nat.{_+_, _≤_};
-ghost use Rattle.rules.specs.Table.{at, put, grown, stolenIn};
+ghost use Rattle.rules.specs.Table.{at, put, grown};
 ghost use Rattle.rules.specs.Requests.{view, changed};
 ghost use Rattle.rules.specs.Count.{unclaimed};
 ghost use Rattle.ledger.specs.Slots.{IsSlot, Stores};
@@ -42,19 +42,6 @@ fn with_pair_used(l: Ledger) -> Ledger
     m
 }
 
-pub(crate) fn stolen_in(l: Ledger) -> u32
-    ensures { λ k. ⌜ k ≡ stolenIn l ⌝ }
-{
-    let mut k: u32 = 0;
-    let mut i: usize = 0;
-    while i < Opening::NODES {
-        let x = l.nodes[i];
-        k += nodes::stolen_one(x);
-        i += 1;
-    }
-    k
-}
-
 pub(crate) fn unclaimed_in(l: Ledger) -> u64
     ensures { λ k. ⌜ k ≡ unclaimed l ⌝ }
 {
@@ -73,7 +60,7 @@ pub(crate) fn view_of(l: Ledger, n: u32) -> View
     ensures { λ v. ⌜ v ≡ view l n ⌝ }
 {
     let x = node_at(l, n);
-    let k = stolen_in(l);
+    let k = forms::stolen_in(l);
     View {
         teams: l.teams,
         room: l.room,

@@ -16,7 +16,7 @@ fn show(rule: u32, l: Ledger, node: i32) {
     print::text(b",");
     print::node_of(l, node);
     print::text(b": well formed");
-    print::truth(ledger::well_formed(l));
+    print::truth(forms::well_formed(l));
     print::text(b", answer");
     print::answer(a);
     print::text(b", count");

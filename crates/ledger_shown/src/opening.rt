@@ -25,7 +25,7 @@ fn show(start: i32, until: i32, teams: i32, cap: i32, nodes: i32) {
     print::text(b",");
     print::node_of(l, 1);
     print::text(b", well formed");
-    print::truth(ledger::well_formed(l));
+    print::truth(forms::well_formed(l));
     print::text(b", count");
     print::count(l);
     print::text(b"\n");

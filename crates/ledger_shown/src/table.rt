@@ -61,7 +61,7 @@ fn expand(nodes: u32, used: u32, x: Node) {
         pair: 4,
         node: x,
     };
-    let o = nodes::decide(v, ask::of(ask::EXPAND, 2, 1, 0, 0));
+    let o = requests::decide(v, ask::of(ask::EXPAND, 2, 1, 0, 0));
     let a = o.answer;
     let c = o.change;
     print::text(b"expand with nodes");

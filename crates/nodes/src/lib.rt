@@ -1,19 +1,13 @@
-// One node: what it is, each way to make one, and what a request decides of it.
+// One node: what it is, and each way to make one.
 ghost use mathlib.Core.Path.{_≡_};
 ghost use Prim.Native.Nat.{_≤_};
-ghost use lib.IntN.{ℤ, pos, negsuc};
 ghost use Rattle.rules.specs.Limits.{maxUntil};
 ghost use Rattle.rules.specs.Nodes.{blank, fresh, owned, moved, parted, positionOf, leftOver, marked, unowned, childless, middle, leftPart, rightPart};
 ghost use Rattle.rules.specs.States.{completed, stateOf, stolenOf};
 ghost use Rattle.rules.specs.Count.{restOf};
-ghost use Rattle.rules.specs.Requests.{decided};
 use rules::Node;
-use rules::Outcome;
-use rules::Request;
-use rules::View;
 
-mod codes;
-pub mod grants;
+pub mod formed;
 pub mod moves;
 
 pub fn is_completed(x: Node) -> bool
@@ -145,17 +139,4 @@ pub fn right_part(x: Node) -> Node
     ensures { λ r. ⌜ (x .until ≤ maxUntil → r ≡ rightPart x) ⌝ }
 {
     fresh_node(middle_of(x), x.until)
-}
-
-// What a request answers and does, by the one node it names. Of a well-formed ledger no node ends past the largest until, and there this
-// is the decision; it is no public call by itself.
-pub fn decide(v: View, r: Request) -> Outcome
-    ensures { λ o. ⌜ (v .node .until ≤ maxUntil → o ≡ decided v r) ⌝ }
-{
-    let code = codes::refusal_of(v, r);
-    if code != 0 {
-        let a = grants::refusing_by(v, code);
-        return grants::unchanged(a);
-    }
-    grants::granted_by(v, r)
 }

@@ -36,14 +36,14 @@ fn outside_code(l: Ledger, number: i32, n: usize) -> u32
 {
     let c18 = numbers::given_code(n < l.teams as usize, 18, 0);
     let c3 = numbers::given_code(!numbers::in_range(number, 1, l.teams), 3, c18);
-    numbers::given_code(!ledger::well_formed(l), 1, c3)
+    numbers::given_code(!forms::well_formed(l), 1, c3)
 }
 
 fn refused_round(l: Ledger, number: i32, n: usize) -> Round
     ensures { λ r. ⌜ r ≡ refusedRound l number n ⌝ }
 {
     let code = outside_code(l, number, n);
-    let answer = nodes::grants::refused_by(code);
+    let answer = requests::refused_by(code);
     Round {
         ledger: l,
         kind: 0,

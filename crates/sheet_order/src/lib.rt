@@ -140,7 +140,7 @@ pub fn in_order(l: Ledger, granted: Pieces) -> Pieces
     ensures { λ r. ⌜ (0 < r .count → sheetsOf (told r) ≡ listed (l .used) l (history granted) 1) ⌝ }
 {
     let small = (l.used <= NODES) & (granted.count <= Pieces::MOST);
-    if ledger::well_formed(l) & small {
+    if forms::well_formed(l) & small {
         return settled(with_node(Pieces::none(), l.used, l, granted, 1));
     }
     Pieces::none()

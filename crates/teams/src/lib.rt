@@ -30,13 +30,13 @@ fn code_of(l: Ledger, number: i32, cap: i32, t: Team) -> u32
 {
     let c19 = numbers::given_code(is_unfit(cap, t), 19, 0);
     let c3 = numbers::given_code(!numbers::in_range(number, 1, l.teams), 3, c19);
-    numbers::given_code(!ledger::well_formed(l), 1, c3)
+    numbers::given_code(!forms::well_formed(l), 1, c3)
 }
 
 fn unmoved_by(code: u32, l: Ledger, t: Team) -> Stepped
     ensures { λ r. ⌜ r ≡ unmoved code l t ⌝ }
 {
-    let answer = nodes::grants::refused_by(code);
+    let answer = requests::refused_by(code);
     Stepped {
         ledger: l,
         team: t,
@@ -86,7 +86,7 @@ pub fn step(l: Ledger, number: i32, cap: i32, team: Team) -> Stepped
 fn still_turn(t: Team) -> Turned
     ensures { λ r. ⌜ r ≡ still t ⌝ }
 {
-    let answer = nodes::grants::refused_by(0);
+    let answer = requests::refused_by(0);
     Turned {
         team: t,
         kind: 0,
@@ -106,7 +106,7 @@ pub fn turn(number: u32, cap: u32, t: Team, v: View) -> Turned
         return still_turn(t);
     }
     let q = places::asks_of(number, t);
-    let o = nodes::decide(v, q);
+    let o = requests::decide(v, q);
     let answer = o.answer;
     let change = o.change;
     let team = places::moves_of(number, cap, t, answer);

@@ -9,7 +9,8 @@ use Rattle.rules.specs.WellFormed.{wellFormed}
 use Rattle.rules.proofs.Record.{rules}
 use Rattle.nodes.proofs.Laws.{chosen, passed-by, natural-held}
 use Rattle.ledger.specs.Slots.{Stores}
-use Rattle.ledger.proofs.Laws.{length-under, used-small, numbers-first, until-small}
+use Rattle.forms.proofs.Laws.{length-under, used-small}
+use Rattle.ledger.proofs.Laws.{numbers-first, until-small}
 use Rattle.ledger.proofs.Slots.{request-stores}
 use Rattle.ledger.proofs.request.Statement.{statement}
 use Rattle.ledger.proofs.request.Tie as tie

@@ -3,7 +3,7 @@ use borrow.Author.Needs.{needs}
 use mathlib.Core.Path.{_≡_}
 use mathlib.Core.Bool.{true, false}
 use lib.ListN.{length}
-use Rattle.ledger.proofs.Laws.{length-under}
+use Rattle.forms.proofs.Laws.{length-under}
 use Rattle.sheet_order.specs.Order.{small, inOrder}
 use Rattle.sheet_order.proofs.Demands.{reads-listing, small-answer, large-answer, root-readable}
 use Rattle.sheet_order.proofs.in_order.Statement.{statement}

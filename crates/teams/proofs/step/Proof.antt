@@ -5,7 +5,7 @@ use borrow.Author.Tests.{eq-eqb, ne-eqb}
 use lib.ListN.{length}
 use Rattle.numbers.proofs.Signed.{held}
 use Rattle.numbers.specs.Fields.{natOf}
-use Rattle.ledger.proofs.Laws.{length-under}
+use Rattle.forms.proofs.Laws.{length-under}
 use Rattle.steps.specs.Step.{stepUnless, soloStep}
 use Rattle.teams.proofs.Laws.{passes}
 use Rattle.teams.proofs.step.Statement.{statement}

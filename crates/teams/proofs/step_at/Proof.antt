@@ -3,7 +3,7 @@ use mathlib.Core.Path.{_≡_, sym, _∙_}
 use borrow.Author.Needs.{needs}
 use lib.ListN.{length}
 use Rattle.nodes.proofs.Laws.{natural-held}
-use Rattle.ledger.proofs.Laws.{length-under}
+use Rattle.forms.proofs.Laws.{length-under}
 use Rattle.teams.proofs.Laws.{answer-small, step-rests, step-made}
 use Rattle.teams.proofs.step_at.Statement.{statement}
 use Rattle.teams.proofs.step_at.Tie as tie

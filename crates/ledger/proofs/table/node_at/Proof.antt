@@ -4,7 +4,7 @@ use borrow.Author.Needs.{needs}
 use mathlib.Core.Path.{_≡_, _∙_, sym}
 use Prim.Native.Nat.{_-_, _≤_}
 use lib.ListN.{length, List·getD-eq-default}
-use Rattle.ledger.proofs.Laws.{length-under}
+use Rattle.forms.proofs.Laws.{length-under}
 use Rattle.rules.specs.Table.{at}
 use Rattle.ledger.proofs.table.node_at.Statement.{statement}
 use Rattle.ledger.proofs.table.node_at.Tie as tie

@@ -9,7 +9,7 @@ use Rattle.rules.specs.Nodes.{blank}
 use Rattle.rules.specs.Count.{restOf, unclaimed}
 use Rattle.rules.specs.Table.{sumBy}
 use Rattle.rules.proofs.Sums.{sumBy-next, sumBy-none}
-use Rattle.ledger.proofs.Laws.{length-under}
+use Rattle.forms.proofs.Laws.{length-under}
 use Rattle.ledger.proofs.table.unclaimed_in.Statement.{statement}
 use Rattle.ledger.proofs.table.unclaimed_in.Tie as tie
 

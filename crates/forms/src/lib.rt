@@ -1,0 +1,155 @@
+// Well formed: the rules over the table, group by group. Each test is total: a ledger handed in may hold any numbers.
+ghost use mathlib.Core.Path.{_≡_};
+ghost use Prim.Native.Nat.{ℕ, _+_, _≤_, _<_};
+ghost use lib.ListN.{getD};
+ghost use Rattle.rules.specs.Table.{sumBy, stolenIn};
+ghost use Rattle.rules.specs.WellFormed.{upTo, numbersRule, rootRange, nodeRule, leftIs, pairRule, roomRule, unusedRule, wellFormed};
+use rules::Ledger;
+use rules::Opening;
+
+fn numbers_ok(l: Ledger) -> bool
+    ensures { λ r. ⌜ r ≡ numbersRule l ⌝ }
+{
+    let ordered = (0 <= l.start) & (l.start <= l.until);
+    let ends = (0 <= l.until) & (l.until <= Opening::UNTIL);
+    let some = (1 <= l.teams) & (l.teams <= Opening::TEAMS);
+    let room = (1 <= l.room) & (l.room <= Opening::NODES as u32);
+    let used = (l.used % 2 == 1) & (l.used <= l.room);
+    (ordered & ends & some & true & room) & used
+}
+
+fn root_ok(l: Ledger) -> bool
+    ensures { λ r. ⌜ r ≡ rootRange l ⌝ }
+{
+    let x = l.nodes[0];
+    (x.start == l.start) & (x.until == l.until)
+}
+
+// A left child's number as a slot that has a next one: itself, where it can be one.
+fn pair_slot(left: u32) -> usize
+    ensures { λ r. ⌜ (1 ≤ r) × (r ≤ 1022) × ((1 ≤ left) → (left ≤ 1022) → r ≡ left) ⌝ }
+{
+    if left < 1 {
+        return 1;
+    }
+    if 1022 < left {
+        return 1;
+    }
+    left as usize
+}
+
+fn nodes_ok(l: Ledger) -> bool
+    requires { ⌜ l .used ≤ 1023 ⌝ }
+    ensures { λ r. ⌜ r ≡ upTo (nodeRule l) (l .used) ⌝ }
+{
+    let used = l.used;
+    let teams = l.teams;
+    let mut ok = true;
+    let mut i: u32 = 0;
+    while i < used {
+        let slot = i as usize;
+        let x = l.nodes[slot];
+        let right = pair_slot(x.left);
+        let left = right - 1;
+        let a = l.nodes[left];
+        let b = l.nodes[right];
+        let alone = nodes::formed::alone_ok(teams, x);
+        let child = nodes::formed::child_ok(i + 1, used, x, a, b);
+        ok = ok & (alone & child);
+        i += 1;
+    }
+    ok
+}
+
+// A number below 1,023 as itself, any other as 1,023.
+fn tally_slot(left: u32) -> usize
+    ensures { λ r. ⌜ (r ≤ 1023) × ((left < 1023) → r ≡ left) × ((1023 ≤ left) → r ≡ 1023) ⌝ }
+{
+    if left < 1023 { left as usize } else { 1023 }
+}
+
+// At each number below 1,023, how many nodes have it for left child.
+fn tally(l: Ledger) -> [u32; 1024]
+    ensures { λ r. ⌜ ((c : ℕ) → c < 1023 → getD r c 0 ≡ sumBy (leftIs c) (l .nodes)) ⌝ }
+{
+    let mut seen = [0u32; 1024];
+    let mut i: usize = 0;
+    while i < Opening::NODES {
+        let x = l.nodes[i];
+        let e = tally_slot(x.left);
+        let had = seen[e];
+        seen[e] = had + 1;
+        i += 1;
+    }
+    seen
+}
+
+fn pairs_ok(l: Ledger) -> bool
+    requires { ⌜ l .used ≤ 1023 ⌝ }
+    ensures { λ r. ⌜ r ≡ upTo (pairRule l) (l .used) ⌝ }
+{
+    let used = l.used;
+    let seen = tally(l);
+    let mut ok = true;
+    let mut i: u32 = 0;
+    while i < used {
+        let c = (i + 1) as usize;
+        let had = seen[c];
+        ok = ok & (!(c % 2 == 0) | (had == 1));
+        i += 1;
+    }
+    ok
+}
+
+// How many nodes are STOLEN.
+pub fn stolen_in(l: Ledger) -> u32
+    ensures { λ k. ⌜ k ≡ stolenIn l ⌝ }
+{
+    let mut k: u32 = 0;
+    let mut i: usize = 0;
+    while i < Opening::NODES {
+        let x = l.nodes[i];
+        k += nodes::stolen_one(x);
+        i += 1;
+    }
+    k
+}
+
+fn room_ok(l: Ledger) -> bool
+    ensures { λ r. ⌜ r ≡ roomRule l ⌝ }
+{
+    let k = stolen_in(l);
+    (l.used as u64) + 2 * (k as u64) <= (l.room as u64)
+}
+
+fn unused_ok(l: Ledger) -> bool
+    ensures { λ r. ⌜ r ≡ upTo (unusedRule l) 1023 ⌝ }
+{
+    let used = l.used;
+    let mut ok = true;
+    let mut i: u32 = 0;
+    while i < 1023 {
+        let slot = i as usize;
+        let x = l.nodes[slot];
+        let none = nodes::formed::blank_ok(x);
+        ok = ok & ((i + 1 <= used) | none);
+        i += 1;
+    }
+    ok
+}
+
+// Whether a ledger, of any numbers at all, is well formed.
+pub fn well_formed(l: Ledger) -> bool
+    ensures { λ r. ⌜ r ≡ wellFormed l ⌝ }
+{
+    if numbers_ok(l) {
+        let root = root_ok(l);
+        let nodes = nodes_ok(l);
+        let pairs = pairs_ok(l);
+        let room = room_ok(l);
+        let unused = unused_ok(l);
+        root & nodes & pairs & room & unused
+    } else {
+        false
+    }
+}

@@ -1,9 +1,0 @@
--- Kinds are 1 to 5.
-use Rattle.numbers.proofs.Signed.{told}
-use Rattle.nodes.proofs.codes.good_kind.Statement.{statement}
-use Rattle.nodes.proofs.codes.good_kind.Tie as tie
-
-pub good-kind-spec : {M : Type 1} → statement M
-good-kind-spec = tie.close (tie.spec
-    (λ c κs. tt)
-    (λ c. cc (told (c .before .before .args .r .kind) (c .before .struct-told .given .0 .1))))

@@ -1,0 +1,21 @@
+-- The list of mark, in its order.
+use Rattle.rules.specs.Refusals.{markCode}
+use Rattle.refusals.proofs.mark_code.Statement.{statement}
+use Rattle.refusals.proofs.mark_code.Tie as tie
+
+pub mark-code-spec : {M : Type 1} → statement M
+unfolding markCode
+mark-code-spec = tie.close (tie.spec
+    (λ c κs. tt)
+    (λ c κs. tt)
+    (λ c κs. tt)
+    (λ c κs. tt)
+    (λ c κs. tt)
+    (λ c κs. tt)
+    (λ c κs. tt)
+    (λ c κs. tt)
+    (λ c κs. tt)
+    (λ c κs. tt)
+    (λ c κs. tt)
+    (λ c κs. tt)
+    (λ c. cc))

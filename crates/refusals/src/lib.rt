@@ -1,0 +1,110 @@
+// The refusals: each request's tests in the order of document 01's table. The last test is written first, since each line gives what the later ones leave.
+ghost use mathlib.Core.Path.{_≡_};
+ghost use Rattle.numbers.specs.Fields.{within, isNat, sameNumber};
+ghost use Rattle.rules.specs.Limits.{maxAmount};
+ghost use Rattle.rules.specs.Refusals.{noRoom, ownCode, advanceCode, markCode, expandCode, kindCode, refusal};
+use rules::Node;
+use rules::Request;
+use rules::View;
+
+fn good_kind(r: Request) -> bool
+    ensures { λ b. ⌜ b ≡ within (r .kind) 1 5 ⌝ }
+{
+    numbers::in_range(r.kind, 1, 5)
+}
+
+fn good_team(r: Request, teams: u32) -> bool
+    ensures { λ b. ⌜ b ≡ within (r .team) 1 teams ⌝ }
+{
+    numbers::in_range(r.team, 1, teams)
+}
+
+fn good_node(r: Request, used: u32) -> bool
+    ensures { λ b. ⌜ b ≡ within (r .node) 1 used ⌝ }
+{
+    numbers::in_range(r.node, 1, used)
+}
+
+fn good_amount(r: Request) -> bool
+    ensures { λ b. ⌜ b ≡ within (r .amount) 1 maxAmount ⌝ }
+{
+    numbers::in_range(r.amount, 1, Request::AMOUNT)
+}
+
+fn by_owner(x: Node, r: Request) -> bool
+    ensures { λ b. ⌜ b ≡ isNat (r .team) (x .owner) ⌝ }
+{
+    numbers::is_number(r.team, x.owner)
+}
+
+fn at_progress(x: Node, r: Request) -> bool
+    ensures { λ b. ⌜ b ≡ sameNumber (r .position) (x .progress) ⌝ }
+{
+    numbers::same_number(r.position, x.progress)
+}
+
+// The sums are taken in 64 bits, where no number of a view can make them wrap.
+fn no_room(v: View) -> bool
+    ensures { λ b. ⌜ b ≡ noRoom v ⌝ }
+{
+    (v.room as u64) < (v.used as u64) + 2 * (v.stolen as u64) + 2
+}
+
+fn own_code(x: Node) -> u32
+    ensures { λ c. ⌜ c ≡ ownCode x ⌝ }
+{
+    let c6 = numbers::given_code(nodes::is_completed(x), 6, 0);
+    numbers::given_code(!nodes::is_unowned(x), 5, c6)
+}
+
+fn advance_code(x: Node, r: Request) -> u32
+    ensures { λ c. ⌜ c ≡ advanceCode x r ⌝ }
+{
+    let c10 = numbers::given_code(!at_progress(x, r), 10, 0);
+    let c6 = numbers::given_code(nodes::is_completed(x), 6, c10);
+    let c9 = numbers::given_code(nodes::is_marked(x), 9, c6);
+    let c8 = numbers::given_code(!by_owner(x, r), 8, c9);
+    numbers::given_code(!good_amount(r), 7, c8)
+}
+
+fn mark_code(v: View, r: Request) -> u32
+    ensures { λ c. ⌜ c ≡ markCode v r ⌝ }
+{
+    let x = v.node;
+    let c14 = numbers::given_code(no_room(v), 14, 0);
+    let c10 = numbers::given_code(!at_progress(x, r), 10, c14);
+    let c6 = numbers::given_code(nodes::is_completed(x), 6, c10);
+    let c9 = numbers::given_code(nodes::is_marked(x), 9, c6);
+    let c12 = numbers::given_code(by_owner(x, r), 12, c9);
+    numbers::given_code(nodes::is_unowned(x), 11, c12)
+}
+
+fn expand_code(x: Node) -> u32
+    ensures { λ c. ⌜ c ≡ expandCode x ⌝ }
+{
+    let c16 = numbers::given_code(!nodes::is_childless(x), 16, 0);
+    numbers::given_code(!nodes::is_marked(x), 15, c16)
+}
+
+fn kind_code(v: View, r: Request) -> u32
+    ensures { λ c. ⌜ c ≡ kindCode v r ⌝ }
+{
+    let x = v.node;
+    let k = numbers::natural(r.kind);
+    match k {
+        1 => own_code(x),
+        2 => advance_code(x, r),
+        3 => mark_code(v, r),
+        4 => expand_code(x),
+        _ => 0,
+    }
+}
+
+// The code of a request, 0 where it is granted.
+pub fn refusal_of(v: View, r: Request) -> u32
+    ensures { λ c. ⌜ c ≡ refusal v r ⌝ }
+{
+    let c4 = numbers::given_code(!good_node(r, v.used), 4, kind_code(v, r));
+    let c3 = numbers::given_code(!good_team(r, v.teams), 3, c4);
+    numbers::given_code(!good_kind(r), 2, c3)
+}

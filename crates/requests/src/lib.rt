@@ -1,0 +1,189 @@
+// What a request decides of the one node it names: its answer, and what it does to the node.
+ghost use mathlib.Core.Path.{_≡_};
+ghost use Prim.Native.Nat.{_≤_};
+ghost use Rattle.rules.specs.Limits.{maxUntil};
+ghost use Rattle.rules.specs.Requests.{refused, refusing, ranged, split, seen, outcome, owning, batchEnd, advancing, marking, expanding, looking, granted, decided};
+use rules::Answer;
+use rules::Change;
+use rules::Node;
+use rules::Outcome;
+use rules::Request;
+use rules::View;
+
+pub fn refused_by(code: u32) -> Answer
+    ensures { λ a. ⌜ a ≡ refused code ⌝ }
+{
+    Answer {
+        code: code,
+        state: 0,
+        from: 0,
+        to: 0,
+        owner: 0,
+        left: 0,
+    }
+}
+
+// Code 16 tells the late splitter where the children are; any other refusal has only its code.
+fn refusing_by(v: View, code: u32) -> Answer
+    ensures { λ a. ⌜ a ≡ refusing v code ⌝ }
+{
+    let x = v.node;
+    let mid = numbers::given_code(code == 16, nodes::middle_of(x), 0);
+    let left = numbers::given_code(code == 16, x.left, 0);
+    Answer {
+        code: code,
+        state: 0,
+        from: mid,
+        to: 0,
+        owner: 0,
+        left: left,
+    }
+}
+
+fn range_answer(from: u32, to: u32) -> Answer
+    ensures { λ a. ⌜ a ≡ ranged «from» to ⌝ }
+{
+    Answer {
+        code: 0,
+        state: 0,
+        from: from,
+        to: to,
+        owner: 0,
+        left: 0,
+    }
+}
+
+fn split_answer(left: u32, mid: u32) -> Answer
+    ensures { λ a. ⌜ a ≡ split left mid ⌝ }
+{
+    Answer {
+        code: 0,
+        state: 0,
+        from: mid,
+        to: 0,
+        owner: 0,
+        left: left,
+    }
+}
+
+fn look_answer(x: Node) -> Answer
+    ensures { λ a. ⌜ a ≡ seen x ⌝ }
+{
+    let s = nodes::state_of(x);
+    let p = nodes::position_of(x);
+    Answer {
+        code: 0,
+        state: s,
+        from: p,
+        to: x.until,
+        owner: x.owner,
+        left: x.left,
+    }
+}
+
+fn unchanged(a: Answer) -> Outcome
+    ensures { λ o. ⌜ o ≡ outcome a Change.Keep ⌝ }
+{
+    Outcome {
+        answer: a,
+        change: Change::Keep,
+    }
+}
+
+fn stored(a: Answer, x: Node) -> Outcome
+    ensures { λ o. ⌜ o ≡ outcome a (Change.Store x) ⌝ }
+{
+    Outcome {
+        answer: a,
+        change: Change::Store(x),
+    }
+}
+
+fn own_outcome(v: View, r: Request) -> Outcome
+    ensures { λ o. ⌜ o ≡ owning v r ⌝ }
+{
+    let x = v.node;
+    let y = nodes::owned_by(x, numbers::natural(r.team));
+    stored(range_answer(x.start, x.until), y)
+}
+
+// Two signed numbers that are not negative never make an unsigned sum wrap.
+fn batch_end(x: Node, r: Request) -> u32
+    ensures { λ e. ⌜ e ≡ batchEnd x r ⌝ }
+{
+    let p = numbers::natural(r.position);
+    let k = numbers::natural(r.amount);
+    numbers::lesser(p + k, x.until)
+}
+
+fn advance_outcome(v: View, r: Request) -> Outcome
+    ensures { λ o. ⌜ (v .node .until ≤ maxUntil → o ≡ advancing v r) ⌝ }
+{
+    let x = v.node;
+    let p = numbers::natural(r.position);
+    let e = batch_end(x, r);
+    let y = nodes::moved_to(x, numbers::to_signed(e));
+    stored(range_answer(p, e), y)
+}
+
+fn mark_outcome(v: View, r: Request) -> Outcome
+    ensures { λ o. ⌜ o ≡ marking v r ⌝ }
+{
+    let x = v.node;
+    let p = numbers::natural(r.position);
+    let y = nodes::moved_to(x, numbers::mark_of(r.position));
+    stored(range_answer(p, x.until), y)
+}
+
+fn expand_outcome(v: View) -> Outcome
+    ensures { λ o. ⌜ (v .node .until ≤ maxUntil → o ≡ expanding v) ⌝ }
+{
+    let x = v.node;
+    let pair = v.pair;
+    let y = nodes::parted_at(x, pair);
+    let a = nodes::left_part(x);
+    let b = nodes::right_part(x);
+    let answer = split_answer(pair, nodes::middle_of(x));
+    Outcome {
+        answer: answer,
+        change: Change::Split {
+            parent: y,
+            pair: pair,
+            left: a,
+            right: b,
+        },
+    }
+}
+
+fn look_outcome(v: View) -> Outcome
+    ensures { λ o. ⌜ o ≡ looking v ⌝ }
+{
+    let x = v.node;
+    unchanged(look_answer(x))
+}
+
+fn granted_by(v: View, r: Request) -> Outcome
+    ensures { λ o. ⌜ (v .node .until ≤ maxUntil → o ≡ granted v r) ⌝ }
+{
+    let k = numbers::natural(r.kind);
+    match k {
+        1 => own_outcome(v, r),
+        2 => advance_outcome(v, r),
+        3 => mark_outcome(v, r),
+        4 => expand_outcome(v),
+        _ => look_outcome(v),
+    }
+}
+
+// What a request answers and does, by the one node it names. Of a well-formed ledger no node ends past the largest until, and there this
+// is the decision; it is no public call by itself.
+pub fn decide(v: View, r: Request) -> Outcome
+    ensures { λ o. ⌜ (v .node .until ≤ maxUntil → o ≡ decided v r) ⌝ }
+{
+    let code = refusals::refusal_of(v, r);
+    if code != 0 {
+        let a = refusing_by(v, code);
+        return unchanged(a);
+    }
+    granted_by(v, r)
+}
