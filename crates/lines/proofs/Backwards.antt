@@ -1,14 +1,14 @@
 -- A number written from its last digit to its first, each where it belongs.
-use mathlib.Core.Path.{_≡_, refl, sym, ap, _∙_}
+use mathlib.Core.Path.{_≡_, sym, ap, _∙_}
 use mathlib.Core.List.{List, [], _∷_, _++_, append-nil}
 use Prim.Native.Nat.{ℕ, _+_, _-_, _/_, _%_, _≤_, _<_}
 use native.Mathlib.Omega.{arith}
 use lib.ListN.{length, set, length-append}
 use lib.Seq.{append-snoc}
-use Rattle.lines.specs.Decimal.{digit, decimal}
+use Rattle.line_rules.specs.Decimal.{digit, decimal}
 use Rattle.lines.specs.Area.{over}
 use Rattle.lines.proofs.Area.{over-nothing, over-length, over-front}
-use Rattle.lines.proofs.Decimal.{decimal-last, decimal-more, decimal-one, decimal-shorter, decimal-some}
+use Rattle.line_rules.proofs.Decimal.{decimal-last, decimal-more, decimal-one, decimal-shorter, decimal-some}
 
 -- The digits of `rest` are still to be written, up to the place `last`; behind it the others stand in the area.
 pub record Behind (area : List ℕ) (at n last rest : ℕ) (now : List ℕ) : Type 0 where

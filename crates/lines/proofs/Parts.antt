@@ -10,8 +10,8 @@ use lib.ListN.{length, getD, take, drop, length-append, take-append-drop}
 use lib.Seq.{take-suc}
 use Rattle.numbers.specs.Progress.{negative}
 use Rattle.numbers.specs.Fields.{natOf}
-use Rattle.lines.specs.Decimal.{decimal}
-use Rattle.lines.specs.Line.{Part, number, belowZero, bytesOf, space, spaced, anyNegative}
+use Rattle.line_rules.specs.Decimal.{decimal}
+use Rattle.line_rules.specs.Line.{Part, number, belowZero, bytesOf, space, spaced, anyNegative}
 use Rattle.lines.specs.Shape.{fields, inside}
 use Rattle.lines.specs.Area.{Put}
 use Rattle.lines.proofs.Area.{put-then}

@@ -5,7 +5,7 @@ use Prim.Native.Nat.{ℕ, _+_, _≤_}
 use native.Mathlib.Omega.{arith}
 use lib.IntN.{ℤ}
 use lib.ListN.{length, length-append}
-use Rattle.lines.specs.Line.{lineEnd, spaced, whole}
+use Rattle.line_rules.specs.Line.{lineEnd, spaced, whole}
 use Rattle.lines.specs.Shape.{fields, inside, parts}
 use Rattle.lines.specs.Area.{over, Put}
 use Rattle.lines.proofs.Area.{put-then, room-then}

@@ -1,10 +1,3 @@
--- The line writer of document 01, "Text and listing".
-pub mod Decimal
-pub mod Words
-pub mod Line
+-- A line and an area as the code of the line writer has them. What a line is stands in the crate line_rules.
 pub mod Shape
 pub mod Area
-pub mod Written
-pub mod Plain
-pub mod Longest
-pub mod Demands

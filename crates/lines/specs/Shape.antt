@@ -3,7 +3,7 @@ use Prim.Native.Nat.{ℕ, _≤_}
 use mathlib.Core.List.{List, [], _∷_, _++_}
 use lib.IntN.{ℤ}
 use lib.ListN.{length}
-use Rattle.lines.specs.Line.{Part, word, number}
+use Rattle.line_rules.specs.Line.{Part, word, number}
 
 abbrev pub fields : List ℤ → List Part
 fields [] = []

@@ -4,17 +4,12 @@ ghost use mathlib.Core.List.{[], _∷_};
 ghost use Prim.Native.Nat.{_+_, _≤_, _<_};
 ghost use lib.ListN.{length};
 ghost use Rattle.numbers.specs.Fields.{natOf};
-ghost use Rattle.lines.specs.Decimal.{decimal};
-ghost use Rattle.lines.specs.Line.{space, openLine, batchLine, splitLine, leftLine, refusedLine, spaced, whole, anyNegative};
+ghost use Rattle.line_rules.specs.Decimal.{decimal};
+ghost use Rattle.line_rules.specs.Line.{space, openLine, batchLine, splitLine, leftLine, refusedLine, spaced, whole, anyNegative};
 ghost use Rattle.lines.specs.Shape.{fields, inside, parts, Small};
 ghost use Rattle.lines.specs.Area.{over, Put};
-ghost use Rattle.lines.specs.Written.{refused, answerTo, areaAfter, answer, after};
-
-// What a call answers: 0 and the line's length in bytes, or the code of a refusal and 0.
-pub struct Written {
-    pub code: u32,
-    pub length: usize,
-}
+ghost use Rattle.line_rules.specs.Written.{refused, answerTo, areaAfter, answer, after};
+use line_rules::Written;
 
 // How many digits n has.
 fn width(n: u64) -> usize

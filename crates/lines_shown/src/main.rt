@@ -1,8 +1,9 @@
 // Shows the line writer at work. Each call lends an area of 44 dots from place `at` on, and prints the code, the length
 // and the whole area afterwards.
 use libc::STDOUT_FILENO;
+use line_rules::Written;
 
-fn show(written: lines::Written, area: &[u8]) {
+fn show(written: Written, area: &[u8]) {
     io::print_decimal(STDOUT_FILENO, written.code as u64);
     io::write_all(STDOUT_FILENO, b" ");
     io::print_decimal(STDOUT_FILENO, written.length as u64);

@@ -1,8 +1,4 @@
--- Laws that the proofs of the functions use, over plain variables; and the demands, proved.
+-- Laws that the proofs of the listing's functions use, over plain variables.
 pub mod Printing
-pub mod Stopped
 pub mod Stepping
 pub mod Reading
-pub mod Lines
-pub mod Noted
-pub mod Demands

@@ -1,37 +1,29 @@
 -- From the text to the run, and from the lines printed to the whole listing.
 use mathlib.Core.Path.{_≡_, ap, ap₂, _∙_}
 use mathlib.Core.Logic.{_≢_}
-use mathlib.Core.Bool.{true}
 use mathlib.Core.List.{List, [], _∷_, _++_, map}
-use Prim.Native.Nat.{ℕ, zero, suc, _≤_, _<_, min}
+use Prim.Native.Nat.{ℕ}
 use native.Mathlib.Omega.{arith}
-use lib.IntN.{ℤ, pos}
-use lib.ListN.{length, getD, take, drop, length-map, length-append}
+use lib.IntN.{ℤ}
+use lib.ListN.{length, take, drop, length-map, length-append}
 use lib.Seq.{take-at}
 use borrow.Author.Tests.{ne-eqb}
 use Rattle.numbers.specs.Progress.{signed}
-use Rattle.numbers.specs.Fields.{natOf, within}
-use Rattle.numbers.proofs.Laws.{within-made}
+use Rattle.numbers.specs.Fields.{natOf}
 use Rattle.rules.proofs.Opens.{opens-facts}
 use Rattle.text_rules.specs.declared.Schedule.{Schedule}
 use Rattle.text_rules.specs.Marks.{marks}
 use Rattle.text_rules.specs.Judgement.{scheduleNumbers}
 use Rattle.text_rules.specs.Answers.{scheduleOf, filled, areaOf}
-use Rattle.text_rules.specs.Demands.{AllTeams, none, more, WithinLimits}
+use Rattle.text_rules.specs.Demands.{WithinLimits}
 use Rattle.text_rules.proofs.Demands.{granted-within-limits}
-use Rattle.lines.specs.Line.{refusedLine}
-use Rattle.listing.specs.declared.Listed.{Listed}
-use Rattle.listing.specs.Steps.{startOf, endOf, notes, headLine, lastLine, runLines}
-use Rattle.listing.specs.Listing.{teamsIn, linesOf}
-use Rattle.listing.specs.Paper.{Paper, paper, blankPaper, printed, printedAll, listed, paperOf, answerTo, areaAfter}
+use Rattle.listing_rules.proofs.Teams.{front-teams}
+use Rattle.line_rules.specs.Line.{refusedLine}
+use Rattle.listing_rules.specs.declared.Listed.{Listed}
+use Rattle.listing_rules.specs.Steps.{startOf, endOf, notes, headLine, lastLine, runLines}
+use Rattle.listing_rules.specs.Listing.{teamsIn, linesOf}
+use Rattle.listing_rules.specs.Paper.{Paper, paper, blankPaper, printed, printedAll, listed, paperOf, answerTo, areaAfter}
 use Rattle.listing.specs.Table.{Runnable}
-
--- each number at the front of an area is a team's
-pub front-teams : (teams : ℕ) (ns : List ℕ) (rest : List ℤ) → teams ≤ 2147483647 → AllTeams teams ns
-    → (i : ℕ) → i < length ns → within (getD (map signed ns ++ rest) i (pos 0)) 1 teams ≡ true
-front-teams teams [] rest h none i less = absurd (omega arith)
-front-teams teams (n ∷ ns) rest h (more low high all) zero less = within-made (min n 2147483647) 1 teams (omega arith) (omega arith)
-front-teams teams (n ∷ ns) rest h (more low high all) (suc i) less = front-teams teams ns rest h all i (omega arith)
 
 module _ (bytes : List ℕ) (area later : List ℤ) (s : Schedule) (is : s ≡ scheduleOf (length area) bytes) (filled-is : later ≡ areaOf bytes area)
     (good : s .code ≡ 0) where

@@ -11,7 +11,7 @@ use lib.Seq.{take-suc}
 use native.Mathlib.Numerals.{add-one}
 use borrow.Author.Tests.{le-leb, lt-leb}
 use Rattle.numbers.specs.Fields.{natOf, within}
-use Rattle.numbers.proofs.Laws.{within-made, within-true}
+use Rattle.numbers.proofs.Laws.{within-true}
 use Rattle.rules.specs.declared.Node.{Node}
 use Rattle.rules.specs.declared.Ledger.{Ledger}
 use Rattle.rules.specs.declared.Opening.{Opening}
@@ -42,73 +42,16 @@ use Rattle.steps.specs.Records.{freshTeam, noTeam, isStopped}
 use Rattle.steps.specs.Step.{slotOf, recordOf, lentCode, lentStep, stepUnless, recordsAfter}
 use Rattle.steps.specs.Turn.{asks, moves, still, turning, turned, carried}
 use Rattle.steps.specs.Run.{Run, stepTeam, runTeams}
-use Rattle.steps.proofs.Fits.{Fit, scan-roams}
+use Rattle.steps.proofs.Fits.{Fit}
 use Rattle.steps.proofs.Runs.{opened-used}
-use Rattle.steps.proofs.Refused.{Fitting, run-fits, never-refused-at, begun-fits}
-use Rattle.steps.proofs.Seeks.{AtRoot, scan-seeks}
 use Rattle.steps.proofs.Turns.{scan-turn, scan-node}
 use Rattle.places.specs.Ready.{Ready}
-use Rattle.lines.specs.Line.{Line}
-use Rattle.listing.specs.Steps.{runWith, runFrom, startOf, endOf, stepLine, noteOf, notes, lastLine}
-use Rattle.listing.specs.Paper.{Paper, printed, printedAll}
+use Rattle.line_rules.specs.Line.{Line}
+use Rattle.listing_rules.specs.Steps.{runWith, runFrom, startOf, endOf, stepLine, noteOf, notes, lastLine}
+use Rattle.listing_rules.specs.Paper.{Paper, printed, printedAll}
 use Rattle.listing.specs.Table.{slotFor, nodeFor, viewBy}
-use Rattle.listing.proofs.Printing.{print-append, print-one}
-
--- ---- a run from an opening within its limits
-
--- the run u begins with an opening, in a run with this cap
-pub record Begun (o : Opening) (cap : ℕ) (u : Run) : Type 0 where
-  pub ok : opens o ≡ true
-  pub cap-is : cap ≡ natOf (o .cap)
-  pub start-is : u ≡ startOf o
-
--- the ledger and the records after any steps
-pub record Here (o : Opening) (cap : ℕ) (l : Ledger) (rs : List Team) : Type 0 where
-  pub wf : WF l
-  pub small : cap ≤ maxCap
-  pub teams-are : l .teams ≡ natOf (o .teams)
-  pub fits : (number : ℤ) → within number 1 (natOf (o .teams)) ≡ true → Fit cap (l .used) (recordOf rs number)
-  pub passes : (number : ℤ) → within number 1 (natOf (o .teams)) ≡ true → lentCode l number (pos cap) rs ≡ 0
-
-module _ (o : Opening) (ok : opens o ≡ true) where
-  abbrev cap : ℕ
-  cap = natOf (o .cap)
-
-  pub limited : within (pos cap) 1 maxCap ≡ true
-  limited = let f = opens-facts o ok .cap in within-made cap 1 maxCap (f .low) (f .high)
-
-  abbrev pub Fits : Run → Type 0
-  Fits u = Fitting (λ t. scan) (λ t. AtRoot) (λ t. scan-seeks t) (λ t. scan-roams t) (pos cap) limited (natOf (o .teams)) u
-
-  pub start-fits : Fits (startOf o)
-  start-fits =
-      begun-fits (λ t. scan) (λ t. AtRoot) (λ t. scan-seeks t) (λ t. scan-roams t) (pos cap) limited o maxTeams ok (opens-facts o ok .teams .high)
-
-  run-from-fits : (s : List ℤ) (u : Run) → Fits u → Fits (runFrom (pos cap) u s)
-  run-from-fits s u g =
-      run-fits (λ t. scan) (λ t. AtRoot) (λ t. scan-seeks t) (λ t. scan-roams t) (pos cap) limited (natOf (o .teams)) s u g
-
-  pub step-fits : (u : Run) (number : ℤ) → Fits u → Fits (stepTeam (λ t. scan) (pos cap) u number)
-  unfolding runTeams
-  step-fits u number g = run-from-fits (number ∷ []) u g
-
-  pub here-of : (l : Ledger) (rs : List Team) → Fits (runWith l rs) → Here o cap l rs
-  here-of l rs g =
-      record {
-        wf = g .good .wf;
-        small = opens-facts o ok .cap .high;
-        teams-are = g .teams-are;
-        fits = λ number h. let w = within-true number 1 (natOf (o .teams)) h in rw (w .is) (g .fits (natOf number) (w .low) (w .high));
-        passes =
-            never-refused-at (λ t. scan) (λ t. AtRoot) (λ t. scan-seeks t) (λ t. scan-roams t) (pos cap) limited (natOf (o .teams)) (runWith l rs) g;
-      }
-
-pub here : {o : Opening} {cap : ℕ} {u : Run} → Begun o cap u → (s : List ℤ) (l : Ledger) (rs : List Team)
-    → runWith l rs ≡ runFrom (pos cap) u s
-    → Here o cap l rs
-here {o} b s l rs e =
-    let ran : runWith l rs ≡ runFrom (pos (natOf (o .cap))) (startOf o) s = rw (b .cap-is, b .start-is) at e in
-    rw (b .cap-is) (here-of o (b .ok) l rs (rw ran (run-from-fits o (b .ok) s (startOf o) (start-fits o (b .ok)))))
+use Rattle.listing_rules.proofs.Printing.{print-append, print-one}
+use Rattle.listing_rules.proofs.Runs.{Begun, Here, here}
 
 -- ---- what the code sees of the table
 

@@ -1,7 +1,7 @@
 -- A line as the code has it, before it is written.
 use Rattle.listing.specs.declared.Entry.{Entry}
 use Rattle.listing.specs.declared.Entry.the-variants.{Open, Batch, Split, Left, Refused}
-use Rattle.lines.specs.Line.{Line, openLine, batchLine, splitLine, leftLine, refusedLine}
+use Rattle.line_rules.specs.Line.{Line, openLine, batchLine, splitLine, leftLine, refusedLine}
 
 abbrev pub lineOf : Entry → Line
 lineOf (Open start until teams cap nodes) = openLine start until teams cap nodes

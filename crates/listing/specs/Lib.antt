@@ -1,8 +1,3 @@
--- Document 01's listing: the lines of a run, the listing of a text, and what stands in the area that is lent for it; then the demands.
-pub mod Steps
-pub mod Listing
-pub mod Paper
+-- A line and the table of nodes as the code of a run has them. What a listing is stands in the crate listing_rules.
 pub mod Entries
 pub mod Table
-pub mod Grants
-pub mod Demands

@@ -2,16 +2,11 @@
 ghost use mathlib.Core.Path.{_≡_};
 ghost use lib.ListN.{length};
 ghost use Rattle.text_rules.specs.Answers.{areaOf};
-ghost use Rattle.listing.specs.Paper.{answerTo, areaAfter};
+ghost use Rattle.listing_rules.specs.Paper.{answerTo, areaAfter};
+use listing_rules::Listed;
 
 mod paper;
 mod run;
-
-// 0 and the listing's length in bytes, or 28 and 0 where the area is too short for it.
-pub struct Listed {
-    pub code: u32,
-    pub length: usize,
-}
 
 // A line of the listing.
 enum Entry {

@@ -2,15 +2,15 @@
 ghost use mathlib.Core.Path.{_≡_};
 ghost use Prim.Native.Nat.{_≤_};
 ghost use lib.ListN.{length};
-ghost use Rattle.lines.specs.Written.{answer, after};
+ghost use Rattle.line_rules.specs.Written.{answer, after};
 ghost use Rattle.numbers.specs.Progress.{signed};
-ghost use Rattle.lines.specs.Line.{refusedLine};
-ghost use Rattle.listing.specs.Steps.{noteOf, headLine};
+ghost use Rattle.line_rules.specs.Line.{refusedLine};
+ghost use Rattle.listing_rules.specs.Steps.{noteOf, headLine};
 ghost use Rattle.listing.specs.Entries.{lineOf};
-ghost use Rattle.listing.specs.Paper.{paper, printed, printedAll, listed};
+ghost use Rattle.listing_rules.specs.Paper.{paper, printed, printedAll, listed};
 use crate::Entry;
-use crate::Listed;
-use lines::Written;
+use line_rules::Written;
+use listing_rules::Listed;
 use rules::Opening;
 use steps::Turned;
 

@@ -4,7 +4,7 @@
 ghost use mathlib.Core.Path.{_≡_};
 ghost use lib.ListN.{length};
 ghost use Rattle.text_rules.specs.Demands.{scheduleRoom};
-ghost use Rattle.listing.specs.Demands.{listingRoom};
+ghost use Rattle.listing_rules.specs.Demands.{listingRoom};
 use libc::STDIN_FILENO;
 use libc::STDOUT_FILENO;
 

@@ -6,7 +6,7 @@ use borrow.Author.Needs.{needs}
 use lib.ListN.{length, take}
 use lib.Seq.{take-length}
 use Rattle.numbers.proofs.Signed.{told}
-use Rattle.lines.specs.Line.{anyNegative}
+use Rattle.line_rules.specs.Line.{anyNegative}
 use Rattle.lines.specs.Shape.{fields}
 use Rattle.lines.proofs.Parts.{negative-more}
 use Rattle.lines.proofs.any_negative.Statement.{statement}

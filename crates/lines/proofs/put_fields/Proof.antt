@@ -7,7 +7,7 @@ use lib.ListN.{length, take}
 use lib.Seq.{take-length}
 use Rattle.numbers.proofs.Signed.{told}
 use Rattle.lines.specs.Area.{Put}
-use Rattle.lines.specs.Line.{spaced}
+use Rattle.line_rules.specs.Line.{spaced}
 use Rattle.lines.specs.Shape.{fields}
 use Rattle.lines.proofs.Area.{put-nothing, put-length}
 use Rattle.lines.proofs.Parts.{field-room, field-more}

@@ -1,11 +1,11 @@
 -- The digits are counted, and each is written where it belongs, the last one first. The loop's invariant: those `Behind` the place stand.
 use borrow.Author.Needs.{needs}
 use native.Mathlib.Omega.{arith}
-use mathlib.Core.Path.{_≡_, refl, _∙_}
+use mathlib.Core.Path.{_≡_, refl}
 use Prim.Native.Nat.{_+_, _≤_}
 use lib.ListN.{length, length-set}
-use Rattle.lines.specs.Decimal.{decimal}
-use Rattle.lines.proofs.Decimal.{decimal-some}
+use Rattle.line_rules.specs.Decimal.{decimal}
+use Rattle.line_rules.proofs.Decimal.{decimal-some}
 use Rattle.lines.proofs.Backwards.{Behind, behind-none, behind-room, behind-place, behind-more, behind-all}
 use Rattle.lines.proofs.put_number.Statement.{statement}
 use Rattle.lines.proofs.put_number.Tie as tie

@@ -3,8 +3,8 @@ use Prim.Native.Nat.{_+_}
 use mathlib.Core.Path.{_≡_, refl}
 use native.Mathlib.Omega.{arith}
 use lib.ListN.{length}
-use Rattle.lines.specs.Decimal.{decimal}
-use Rattle.lines.proofs.Decimal.{decimal-some, decimal-width, decimal-shorter, decimal-one}
+use Rattle.line_rules.specs.Decimal.{decimal}
+use Rattle.line_rules.proofs.Decimal.{decimal-some, decimal-width, decimal-shorter, decimal-one}
 use Rattle.lines.proofs.width.Statement.{statement}
 use Rattle.lines.proofs.width.Tie as tie
 

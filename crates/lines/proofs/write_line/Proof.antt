@@ -1,7 +1,8 @@
 -- The two tests in their order, and then the line.
 use borrow.Author.Needs.{needs}
 use Rattle.lines.specs.Shape.{parts}
-use Rattle.lines.proofs.Answer.{negative-found, ends-negative, ends-short, ends-written}
+use Rattle.line_rules.proofs.Answer.{ends-negative, ends-short, ends-written}
+use Rattle.lines.proofs.Answer.{negative-found, over-start}
 use Rattle.lines.proofs.write_line.Statement.{statement}
 use Rattle.lines.proofs.write_line.Tie as tie
 
@@ -45,7 +46,7 @@ returns-3 c =
     let a = c .before .before .before .before .before .before .before .before .before .before .before .before .args in
     let n = negative-found (a .numbers .now) (a .inner .now) (a .others .now) (c .before .before .before .before .before .before .before .before .any-negative .ensures) (c .before .before .before .before .before .before .before .any-negative2 .ensures) (c .before .before .before .before .before .before .if1 .left) in
     let e = ends-written (a .word .now) (parts (a .numbers .now) (a .inner .now) (a .others .now)) (a .area .now) n (rw (c .before .before .before .before .before .line-length .ensures) at (c .before .before .before .before .if2 .left)) in
-    (rw (c .before .before .before .before .before .line-length .ensures) (e .answered), rw (c .before .before .put-line .ensures) (e .left))
+    (rw (c .before .before .before .before .before .line-length .ensures) (e .answered), rw (c .before .before .put-line .ensures, over-start) (e .left))
 
 pub write-line-spec : {M : Type 1} → statement M
 write-line-spec =

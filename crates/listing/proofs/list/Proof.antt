@@ -1,8 +1,7 @@
 -- A refused text has one line; the lines of a granted one are those of its run.
 use borrow.Author.Needs.{needs}
-use mathlib.Core.Path.{_≡_, refl, sym, ap, _∙_}
 use lib.ListN.{length, take}
-use Rattle.listing.specs.Paper.{paper}
+use Rattle.listing_rules.specs.Paper.{paper}
 use Rattle.listing.proofs.Reading.{steps-are, runnable, refused-whole, granted-whole}
 use Rattle.listing.proofs.list.Statement.{statement}
 use Rattle.listing.proofs.list.Tie as tie

@@ -5,9 +5,9 @@ use mathlib.Core.List.{List}
 use native.Mathlib.Omega.{arith}
 use lib.ListN.{length}
 use lib.Seq.{length-take-le}
-use Rattle.listing.specs.declared.Listed.{Listed}
-use Rattle.listing.specs.Paper.{answerTo, areaAfter}
-use Rattle.listing.proofs.Printing.{answer-inside, area-kept}
+use Rattle.listing_rules.specs.declared.Listed.{Listed}
+use Rattle.listing_rules.specs.Paper.{answerTo, areaAfter}
+use Rattle.listing_rules.proofs.Printing.{answer-inside, area-kept}
 use borrow.Author.Needs.{needs}
 use Rattle.sheets.proofs.main.Statement.{statement}
 use Rattle.sheets.proofs.main.Tie as tie

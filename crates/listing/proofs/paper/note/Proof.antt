@@ -1,7 +1,8 @@
 -- A granted advance and a granted expand have a line, and no other step has.
 use borrow.Author.Needs.{needs}
 use Rattle.numbers.proofs.Signed.{held}
-use Rattle.listing.proofs.Printing.{batch-note, split-note, no-note, print-one, print-none, signed-back}
+use Rattle.listing_rules.proofs.Printing.{print-one, print-none}
+use Rattle.listing.proofs.Printing.{batch-note, split-note, no-note, signed-back}
 use Rattle.listing.proofs.paper.note.Statement.{statement}
 use Rattle.listing.proofs.paper.note.Tie as tie
 

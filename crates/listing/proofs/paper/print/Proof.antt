@@ -2,8 +2,9 @@
 use borrow.Author.Needs.{needs}
 use mathlib.Core.Path.{sym}
 use Rattle.listing.specs.Entries.{lineOf}
-use Rattle.listing.specs.Paper.{paper}
-use Rattle.listing.proofs.Printing.{still, line-fits, line-inside, line-more}
+use Rattle.listing_rules.specs.Paper.{paper}
+use Rattle.listing_rules.proofs.Printing.{still}
+use Rattle.listing.proofs.Printing.{line-fits, line-inside, line-more}
 use Rattle.listing.proofs.paper.print.Statement.{statement}
 use Rattle.listing.proofs.paper.print.Tie as tie
 

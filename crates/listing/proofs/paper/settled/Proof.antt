@@ -1,6 +1,6 @@
 -- The length stays where no line was refused.
 use borrow.Author.Tests.{eq-eqb, ne-eqb}
-use Rattle.listing.specs.Paper.{listed}
+use Rattle.listing_rules.specs.Paper.{listed}
 use Rattle.listing.proofs.paper.settled.Statement.{statement}
 use Rattle.listing.proofs.paper.settled.Tie as tie
 

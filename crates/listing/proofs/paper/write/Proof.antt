@@ -1,6 +1,5 @@
 -- Each kind of line is what the line writer makes of its fields.
 use borrow.Author.Needs.{needs}
-use mir.Syntax.{w32}
 use Rattle.numbers.proofs.Signed.{held}
 use Rattle.listing.proofs.paper.write.Statement.{statement}
 use Rattle.listing.proofs.paper.write.Tie as tie

@@ -1,7 +1,7 @@
 -- The loop holds a ledger and records that are those of the run so far, and has printed its lines so far. The places of a step are counted once, below.
 use borrow.Author.Needs.{needs}
 use native.Mathlib.Omega.{arith}
-use mathlib.Core.Path.{_≡_, refl, sym, ap, _∙_}
+use mathlib.Core.Path.{_≡_, refl, _∙_}
 use mathlib.Core.Bool.{true}
 use mathlib.Core.List.{List}
 use Prim.Native.Nat.{ℕ, _+_, _-_, _≤_, _<_}
@@ -11,15 +11,15 @@ use mir.Syntax.{w32}
 use mir.Val.{toZ, ofZ}
 use Rattle.numbers.specs.Fields.{natOf, within}
 use Rattle.numbers.proofs.Signed.{held}
-use Rattle.rules.specs.declared.Opening.{Opening}
 use Rattle.rules.specs.declared.Node.{Node}
 use Rattle.rules.specs.Table.{stolenIn, at as nodeAt}
 use Rattle.steps.specs.Step.{slotOf, recordOf}
 use Rattle.rules.proofs.Record.{rules-back}
 use Rattle.steps.specs.Run.{Run, runTeams}
-use Rattle.listing.specs.Steps.{runWith, runFrom, startOf, notes}
-use Rattle.listing.specs.Paper.{paper, printedAll}
-use Rattle.listing.proofs.Stepping.{Begun, Here, here, begun-with, none-stolen, ended, seat-inside, taken, taken-is, inked, Arms, arms}
+use Rattle.listing_rules.specs.Steps.{runWith, runFrom, notes}
+use Rattle.listing_rules.specs.Paper.{paper, printedAll}
+use Rattle.listing_rules.proofs.Runs.{Begun, Here, here}
+use Rattle.listing.proofs.Stepping.{begun-with, none-stolen, ended, seat-inside, taken, taken-is, inked, Arms, arms}
 use Rattle.listing.proofs.run.run.Statement.{statement}
 use Rattle.listing.proofs.run.run.Tie as tie
 

@@ -6,7 +6,7 @@ use Prim.Native.Nat.{_-_, _≤_}
 use lib.ListN.{getD}
 use Rattle.steps.specs.Records.{noTeam, isStopped}
 use Rattle.steps.specs.Run.{stoppedTo}
-use Rattle.listing.proofs.Stopped.{none-yet, one-more, one-at-most}
+use Rattle.listing_rules.proofs.Stopped.{none-yet, one-more, one-at-most}
 use Rattle.listing.proofs.run.stopped_in.Statement.{statement}
 use Rattle.listing.proofs.run.stopped_in.Tie as tie
 

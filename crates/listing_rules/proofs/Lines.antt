@@ -8,13 +8,13 @@ use native.Mathlib.Decide.{decLe}
 use borrow.Author.Tests.{lt-ltb, le-ltb}
 use lib.ListN.{length, drop, length-append, length-drop}
 use lib.Seq.{take-at, drop-append-seam, drop-drop}
-use Rattle.lines.specs.Line.{Line, partsOf, text, anyNegative}
-use Rattle.lines.specs.Plain.{isPlain, all}
-use Rattle.lines.specs.Written.{refusal, answerTo, areaAfter}
-use Rattle.lines.proofs.Demands.{all-append, plain-lines}
-use Rattle.listing.specs.Listing.{bytesOf}
-use Rattle.listing.specs.Paper.{Paper, printed, printedAll}
-use Rattle.listing.proofs.Printing.{still}
+use Rattle.line_rules.specs.Line.{Line, partsOf, text, anyNegative}
+use Rattle.line_rules.specs.Plain.{isPlain, all}
+use Rattle.line_rules.specs.Written.{refusal, answerTo, areaAfter}
+use Rattle.line_rules.proofs.Demands.{all-append, plain-lines}
+use Rattle.listing_rules.specs.Listing.{bytesOf}
+use Rattle.listing_rules.specs.Paper.{Paper, printed, printedAll}
+use Rattle.listing_rules.proofs.Printing.{still}
 
 pub record Sane (l : Line) : Type 0 where
   pub short : length (text l) ≤ 40

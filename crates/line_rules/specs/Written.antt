@@ -6,8 +6,8 @@ use mathlib.Core.List.{List, [], _∷_, _++_}
 use lib.Dec.{ltb, eqb}
 use lib.ListN.{length, drop}
 use Rattle.rules.specs.Tests.{_when_, first}
-use Rattle.lines.specs.declared.Written.{Written}
-use Rattle.lines.specs.Line.{Line, Part, wordOf, partsOf, whole, anyNegative}
+use Rattle.line_rules.specs.declared.Written.{Written}
+use Rattle.line_rules.specs.Line.{Line, Part, wordOf, partsOf, whole, anyNegative}
 
 -- 25, a number to write is negative, is tested first; 28, the area is shorter than the line, second
 unfoldable pub refusal : List ℕ → List Part → ℕ → ℕ
@@ -23,9 +23,13 @@ granted n = record { code = 0; length = n }
 unfoldable pub answerTo : List ℕ → List Part → ℕ → Written
 answerTo w ps room = cond (eqb (refusal w ps room) 0) (granted (length (whole w ps))) (refused (refusal w ps room))
 
--- the area afterwards: the line and the bytes that stood after it, or all as it was
+-- a line at the start of an area, and the bytes that stood after it
+abbrev pub atStart : List ℕ → List ℕ → List ℕ
+atStart line area = line ++ drop (length line) area
+
+-- the area afterwards: with the line, or all as it was
 unfoldable pub areaAfter : List ℕ → List Part → List ℕ → List ℕ
-areaAfter w ps area = cond (eqb (refusal w ps (length area)) 0) (whole w ps ++ drop (length (whole w ps)) area) area
+areaAfter w ps area = cond (eqb (refusal w ps (length area)) 0) (atStart (whole w ps) area) area
 
 abbrev pub answer : Line → ℕ → Written
 answer l room = answerTo (wordOf l) (partsOf l) room

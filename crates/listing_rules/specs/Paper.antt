@@ -5,10 +5,10 @@ use mathlib.Core.Bool.{cond}
 use mathlib.Core.List.{List, [], _∷_, _++_}
 use lib.Dec.{eqb}
 use lib.ListN.{length, take, drop}
-use Rattle.lines.specs.Line.{Line}
-use Rattle.lines.specs.Written.{answer, after}
-use Rattle.listing.specs.declared.Listed.{Listed}
-use Rattle.listing.specs.Listing.{linesOf}
+use Rattle.line_rules.specs.Line.{Line}
+use Rattle.line_rules.specs.Written.{answer, after}
+use Rattle.listing_rules.specs.declared.Listed.{Listed}
+use Rattle.listing_rules.specs.Listing.{linesOf}
 
 -- the area, how many bytes at its front are written, and the code of the line that was refused, 0 where none was
 pub record Paper : Type 0 where

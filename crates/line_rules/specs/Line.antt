@@ -5,8 +5,8 @@ use mathlib.Core.List.{List, [], _∷_, _++_}
 use lib.IntN.{ℤ}
 use Rattle.numbers.specs.Progress.{negative}
 use Rattle.numbers.specs.Fields.{natOf}
-use Rattle.lines.specs.Decimal.{decimal}
-use Rattle.lines.specs.Words.{openWord, batchWord, splitWord, leftWord, stoppedWord, refusedWord}
+use Rattle.line_rules.specs.Decimal.{decimal}
+use Rattle.line_rules.specs.Words.{openWord, batchWord, splitWord, leftWord, stoppedWord, refusedWord}
 
 -- "Fields: the header's numbers; batch team node from to; split node left middle; unclaimed count and stopped teams."
 -- "A refused text prints only `refused CODE LINE`."

@@ -10,7 +10,7 @@ use Rattle.steps.specs.Records.{isStopped}
 use Rattle.steps.specs.Step.{recordOf}
 use Rattle.steps.specs.Turn.{asks}
 use Rattle.steps.specs.Run.{Run, stepTeam}
-use Rattle.lines.specs.Line.{Line, openLine, batchLine, splitLine, leftLine, refusedLine}
+use Rattle.line_rules.specs.Line.{Line, openLine, batchLine, splitLine, leftLine, refusedLine}
 
 -- the batch that a line tells of
 abbrev pub claimIn : Line → List Batch

@@ -35,12 +35,12 @@ use Rattle.steps.specs.Step.{asking, resting, recordOf, lentCode, lentStep, ste
 use Rattle.steps.specs.Turn.{asks, moves}
 use Rattle.steps.specs.Run.{Run, stepTeam, runTeams}
 use Rattle.steps.proofs.Turns.{scan-team}
-use Rattle.lines.specs.Line.{Line, batchLine, splitLine, anyNegative}
-use Rattle.lines.proofs.Demands.{at-most-40}
-use Rattle.listing.specs.Steps.{noteOf, stepLine, runWith, runFrom, startOf, notes, runLines}
-use Rattle.listing.specs.Grants.{claimsIn, asksIn, asked}
-use Rattle.listing.proofs.Lines.{AllSane, none, more, sane-append}
-use Rattle.listing.proofs.Stepping.{Fits, here-of, step-fits}
+use Rattle.line_rules.specs.Line.{Line, batchLine, splitLine, anyNegative}
+use Rattle.line_rules.proofs.Demands.{at-most-40}
+use Rattle.listing_rules.specs.Steps.{noteOf, stepLine, runWith, runFrom, startOf, notes, runLines}
+use Rattle.listing_rules.specs.Grants.{claimsIn, asksIn, asked}
+use Rattle.listing_rules.proofs.Lines.{AllSane, none, more, sane-append}
+use Rattle.listing_rules.proofs.Runs.{Fits, here-of, step-fits}
 
 -- what the lines of some steps are to the batches that were granted
 pub record Noted (steps : ℕ) (lines : List Line) (granted : List Batch) : Type 0 where

@@ -8,11 +8,11 @@ use native.Mathlib.Omega.{arith}
 use borrow.Author.Tests.{le-leb}
 use lib.ListN.{getD, length-append, List·getD-append}
 use Rattle.numbers.specs.Fields.{natOf}
-use Rattle.lines.specs.Decimal.{digit, spell, digits, decimal, readAfter, readDecimal}
-use Rattle.lines.specs.Line.{openLine, batchLine, splitLine, leftLine, refusedLine, Part, word, number, bytesOf, spaced, whole, space, lineEnd}
-use Rattle.lines.specs.Plain.{isDigit, isPlain, all}
-use Rattle.lines.specs.Demands.{NoLeadingZero, DigitsAlone, ReadsBack, PlainLines, AtMost40, Reaches40}
-use Rattle.lines.proofs.Decimal.{decimal-last, decimal-more, by-digits, decimal-some, decimal-width}
+use Rattle.line_rules.specs.Decimal.{digit, spell, digits, decimal, readAfter, readDecimal}
+use Rattle.line_rules.specs.Line.{openLine, batchLine, splitLine, leftLine, refusedLine, Part, word, number, bytesOf, spaced, whole, space, lineEnd}
+use Rattle.line_rules.specs.Plain.{isDigit, isPlain, all}
+use Rattle.line_rules.specs.Demands.{NoLeadingZero, DigitsAlone, ReadsBack, PlainLines, AtMost40, Reaches40}
+use Rattle.line_rules.proofs.Decimal.{decimal-last, decimal-more, by-digits, decimal-some, decimal-width}
 
 -- ---- decimals
 pub no-leading-zero : NoLeadingZero

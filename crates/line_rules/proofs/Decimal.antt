@@ -9,7 +9,7 @@ use native.Mathlib.Omega.{arith}
 use borrow.Author.Tests.{lt-ltb, le-ltb, ltb-true, ltb-false}
 use lib.Dec.{lit<, ltb}
 use lib.ListN.{length, length-append}
-use Rattle.lines.specs.Decimal.{digit, oneDigit, spell, digits, decimal}
+use Rattle.line_rules.specs.Decimal.{digit, oneDigit, spell, digits, decimal}
 
 same-spelt : (b : Bool) (n : ℕ) (f g : ℕ → List ℕ) → (b ≡ false → f (n / 10) ≡ g (n / 10)) → spell b n f ≡ spell b n g
 unfolding spell

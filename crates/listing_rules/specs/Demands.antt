@@ -15,13 +15,13 @@ use Rattle.rules.specs.Listing.{sheets, batches, reached, timesIn, ListsOnly}
 use Rattle.rules.specs.Opening.{opening}
 use Rattle.text_rules.specs.Answers.{scheduleOf}
 use Rattle.text_rules.specs.Demands.{scheduleRoom, SameButComments}
-use Rattle.lines.specs.Line.{Line, leftLine, refusedLine, text}
-use Rattle.lines.specs.Plain.{isPlain, all}
-use Rattle.listing.specs.declared.Listed.{Listed}
-use Rattle.listing.specs.Steps.{startOf, endOf}
-use Rattle.listing.specs.Listing.{teamsIn, linesOf, bytesOf, listingOf}
-use Rattle.listing.specs.Paper.{answerTo, areaAfter}
-use Rattle.listing.specs.Grants.{claimsIn, asked}
+use Rattle.line_rules.specs.Line.{Line, leftLine, refusedLine, text}
+use Rattle.line_rules.specs.Plain.{isPlain, all}
+use Rattle.listing_rules.specs.declared.Listed.{Listed}
+use Rattle.listing_rules.specs.Steps.{startOf, endOf}
+use Rattle.listing_rules.specs.Listing.{teamsIn, linesOf, bytesOf, listingOf}
+use Rattle.listing_rules.specs.Paper.{answerTo, areaAfter}
+use Rattle.listing_rules.specs.Grants.{claimsIn, asked}
 
 -- ---- what `sheets` prints
 

@@ -10,8 +10,8 @@ use Rattle.text_rules.specs.Marks.{marks}
 use Rattle.text_rules.specs.Judgement.{scheduleNumbers}
 use Rattle.text_rules.specs.Answers.{scheduleOf}
 use Rattle.text_rules.specs.Demands.{scheduleRoom}
-use Rattle.lines.specs.Line.{Line, refusedLine, text}
-use Rattle.listing.specs.Steps.{runLines}
+use Rattle.line_rules.specs.Line.{Line, refusedLine, text}
+use Rattle.listing_rules.specs.Steps.{runLines}
 
 -- the team numbers of a text, in their order
 abbrev pub teamsIn : List ℕ → List ℤ

@@ -16,7 +16,7 @@ use Rattle.steps.specs.declared.Team.{Team}
 use Rattle.steps.specs.Places.{scan}
 use Rattle.steps.specs.Step.{lentStep}
 use Rattle.steps.specs.Run.{Run, begun, stepTeam, runTeams, stoppedTeams}
-use Rattle.lines.specs.Line.{Line, openLine, batchLine, splitLine, leftLine}
+use Rattle.line_rules.specs.Line.{Line, openLine, batchLine, splitLine, leftLine}
 
 -- "Fields: the header's numbers; batch team node from to; split node left middle; unclaimed count and stopped teams."
 

@@ -4,7 +4,7 @@ use mathlib.Core.List.{List, [], _∷_}
 use lib.IntN.{ℤ, pos}
 use Rattle.numbers.specs.Fields.{natOf}
 use Rattle.rules.specs.Limits.{maxUntil, maxTeams, maxCap, maxNodes}
-use Rattle.lines.specs.Line.{Line, openLine, batchLine, splitLine, leftLine, refusedLine}
+use Rattle.line_rules.specs.Line.{Line, openLine, batchLine, splitLine, leftLine, refusedLine}
 
 -- the last code of the table
 abbrev pub maxCode : ℕ

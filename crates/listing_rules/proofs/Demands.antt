@@ -29,19 +29,19 @@ use Rattle.text_rules.specs.Judgement.{scheduleNumbers}
 use Rattle.text_rules.specs.Answers.{scheduleOf}
 use Rattle.text_rules.specs.Demands.{scheduleRoom, WithinLimits}
 use Rattle.text_rules.proofs.Demands.{granted-within-limits, same-marks, comments-never-matter}
-use Rattle.lines.specs.Line.{Line, leftLine, refusedLine, anyNegative, spaced, whole, text}
-use Rattle.lines.proofs.Decimal.{decimal-width}
-use Rattle.lines.proofs.Demands.{at-most-40}
-use Rattle.listing.specs.Steps.{headLine, lastLine, notes, startOf, endOf, runLines}
-use Rattle.listing.specs.Listing.{teamsIn, linesOf, bytesOf, listingOf}
-use Rattle.listing.specs.Paper.{Paper, listed, paperOf}
-use Rattle.listing.specs.Grants.{claimsIn, asked}
-use Rattle.listing.specs.Demands.{IsGranted, opensWith, askedBy, PlainListing, RefusedInOneLine, CommentsNeverPrinted, PrintsWhatWasGranted, NoSheetPrintedTwice, EverySheetPrintedOnce, AllStoppedNoneLeft, WholeOrRefused, PrintsTheListing}
-use Rattle.listing.proofs.Lines.{Sane, AllSane, none, more, sane-append, plain-bytes, forty-each, all-room, too-long}
-use Rattle.listing.proofs.Noted.{RunTells, run-tells, claims-of-run}
-use Rattle.listing.proofs.Reading.{front-teams}
-use Rattle.listing.proofs.Stepping.{Here, here, start-fits}
-use Rattle.listing.proofs.Stopped.{one-at-most}
+use Rattle.line_rules.specs.Line.{Line, leftLine, refusedLine, anyNegative, spaced, whole, text}
+use Rattle.line_rules.proofs.Decimal.{decimal-width}
+use Rattle.line_rules.proofs.Demands.{at-most-40}
+use Rattle.listing_rules.specs.Steps.{headLine, lastLine, notes, startOf, endOf, runLines}
+use Rattle.listing_rules.specs.Listing.{teamsIn, linesOf, bytesOf, listingOf}
+use Rattle.listing_rules.specs.Paper.{Paper, listed, paperOf}
+use Rattle.listing_rules.specs.Grants.{claimsIn, asked}
+use Rattle.listing_rules.specs.Demands.{IsGranted, opensWith, askedBy, PlainListing, RefusedInOneLine, CommentsNeverPrinted, PrintsWhatWasGranted, NoSheetPrintedTwice, EverySheetPrintedOnce, AllStoppedNoneLeft, WholeOrRefused, PrintsTheListing}
+use Rattle.listing_rules.proofs.Lines.{Sane, AllSane, none, more, sane-append, plain-bytes, forty-each, all-room, too-long}
+use Rattle.listing_rules.proofs.Noted.{RunTells, run-tells, claims-of-run}
+use Rattle.listing_rules.proofs.Teams.{front-teams}
+use Rattle.listing_rules.proofs.Runs.{Here, here, start-fits}
+use Rattle.listing_rules.proofs.Stopped.{one-at-most}
 
 -- ---- a text that is granted, and one that is refused
 

@@ -1,0 +1,75 @@
+-- The runs from an opening within its limits: what holds of their ledger and records after any steps.
+use mathlib.Core.Path.{_≡_}
+use mathlib.Core.Bool.{true}
+use mathlib.Core.List.{List, [], _∷_}
+use Prim.Native.Nat.{ℕ, _≤_}
+use lib.IntN.{ℤ, pos}
+use Rattle.numbers.specs.Fields.{natOf, within}
+use Rattle.numbers.proofs.Laws.{within-made, within-true}
+use Rattle.rules.specs.declared.Ledger.{Ledger}
+use Rattle.rules.specs.declared.Opening.{Opening}
+use Rattle.rules.specs.Limits.{opens, maxCap, maxTeams}
+use Rattle.rules.proofs.Opens.{opens-facts}
+use Rattle.rules.proofs.Record.{WF}
+use Rattle.steps.specs.declared.Team.{Team}
+use Rattle.steps.specs.Places.{scan}
+use Rattle.steps.specs.Step.{recordOf, lentCode}
+use Rattle.steps.specs.Run.{Run, stepTeam, runTeams}
+use Rattle.steps.proofs.Fits.{Fit, scan-roams}
+use Rattle.steps.proofs.Refused.{Fitting, run-fits, never-refused-at, begun-fits}
+use Rattle.steps.proofs.Seeks.{AtRoot, scan-seeks}
+use Rattle.listing_rules.specs.Steps.{runWith, runFrom, startOf}
+
+-- the run u begins with an opening, in a run with this cap
+pub record Begun (o : Opening) (cap : ℕ) (u : Run) : Type 0 where
+  pub ok : opens o ≡ true
+  pub cap-is : cap ≡ natOf (o .cap)
+  pub start-is : u ≡ startOf o
+
+-- the ledger and the records after any steps
+pub record Here (o : Opening) (cap : ℕ) (l : Ledger) (rs : List Team) : Type 0 where
+  pub wf : WF l
+  pub small : cap ≤ maxCap
+  pub teams-are : l .teams ≡ natOf (o .teams)
+  pub fits : (number : ℤ) → within number 1 (natOf (o .teams)) ≡ true → Fit cap (l .used) (recordOf rs number)
+  pub passes : (number : ℤ) → within number 1 (natOf (o .teams)) ≡ true → lentCode l number (pos cap) rs ≡ 0
+
+module _ (o : Opening) (ok : opens o ≡ true) where
+  abbrev cap : ℕ
+  cap = natOf (o .cap)
+
+  pub limited : within (pos cap) 1 maxCap ≡ true
+  limited = let f = opens-facts o ok .cap in within-made cap 1 maxCap (f .low) (f .high)
+
+  abbrev pub Fits : Run → Type 0
+  Fits u = Fitting (λ t. scan) (λ t. AtRoot) (λ t. scan-seeks t) (λ t. scan-roams t) (pos cap) limited (natOf (o .teams)) u
+
+  pub start-fits : Fits (startOf o)
+  start-fits =
+      begun-fits (λ t. scan) (λ t. AtRoot) (λ t. scan-seeks t) (λ t. scan-roams t) (pos cap) limited o maxTeams ok (opens-facts o ok .teams .high)
+
+  run-from-fits : (s : List ℤ) (u : Run) → Fits u → Fits (runFrom (pos cap) u s)
+  run-from-fits s u g =
+      run-fits (λ t. scan) (λ t. AtRoot) (λ t. scan-seeks t) (λ t. scan-roams t) (pos cap) limited (natOf (o .teams)) s u g
+
+  pub step-fits : (u : Run) (number : ℤ) → Fits u → Fits (stepTeam (λ t. scan) (pos cap) u number)
+  unfolding runTeams
+  step-fits u number g = run-from-fits (number ∷ []) u g
+
+  pub here-of : (l : Ledger) (rs : List Team) → Fits (runWith l rs) → Here o cap l rs
+  here-of l rs g =
+      record {
+        wf = g .good .wf;
+        small = opens-facts o ok .cap .high;
+        teams-are = g .teams-are;
+        fits = λ number h. let w = within-true number 1 (natOf (o .teams)) h in rw (w .is) (g .fits (natOf number) (w .low) (w .high));
+        passes =
+            never-refused-at (λ t. scan) (λ t. AtRoot) (λ t. scan-seeks t) (λ t. scan-roams t) (pos cap) limited (natOf (o .teams)) (runWith l rs) g;
+      }
+
+pub here : {o : Opening} {cap : ℕ} {u : Run} → Begun o cap u → (s : List ℤ) (l : Ledger) (rs : List Team)
+    → runWith l rs ≡ runFrom (pos cap) u s
+    → Here o cap l rs
+here {o} b s l rs e =
+    let ran : runWith l rs ≡ runFrom (pos (natOf (o .cap))) (startOf o) s = rw (b .cap-is, b .start-is) at e in
+    rw (b .cap-is) (here-of o (b .ok) l rs (rw ran (run-from-fits o (b .ok) s (startOf o) (start-fits o (b .ok)))))
