@@ -18,7 +18,7 @@ use Rattle.text.specs.declared.Survey.{Survey}
 use Rattle.text.specs.declared.Heading.{Heading}
 use Rattle.text_rules.specs.Marks.{Mark, marks}
 use Rattle.text_rules.specs.Lines.{headLine, fromHead, lineNumbers, afterLine, leftAfter, numbersOf}
-use Rattle.text_rules.specs.Judgement.{maxBytes, headerNumbers, ruled, granted, isGranted, given, faultFrom, openingOf, headOf, headVerdict, headerVerdict, scheduleMarks, bodyVerdict, scheduleVerdict}
+use Rattle.text_rules.specs.Judgement.{maxBytes, isHeader, ruled, granted, isGranted, given, faultFrom, openingOf, headOf, headVerdict, headerVerdict, scheduleMarks, bodyVerdict, scheduleVerdict}
 use Rattle.text_rules.specs.Answers.{noOpening, restPlace, filled, scheduleOf, areaOf}
 use Rattle.text_rules.proofs.Granted.{granted-first, header-granted, Granted, granted-is}
 use Rattle.text.specs.Passes.{FoundHead, FoundRow, tallyOf, FoundSurvey, refusedHeading, headingBy, FoundHeading}
@@ -27,14 +27,19 @@ use Rattle.text.specs.Passes.{FoundHead, FoundRow, tallyOf, FoundSurvey,
 
 -- the later tests count only where the earlier ones grant
 later-tests : (b : Bool) (v x y : Verdict) → isGranted v ≡ b → (isGranted v ≡ true → x ≡ y) → given (not b) v x ≡ given (not b) v y
+unfolding given
 later-tests true v x y e h = h e
 later-tests false v x y e h = refl
 
 -- ---- the header
 
 pub long-verdict : (n : ℕ) (ms : List Mark) → maxBytes < n → ruled 21 0 ≡ headerVerdict n ms
-unfolding headerVerdict
+unfolding headerVerdict given
 long-verdict n ms h = rw (lt-ltb maxBytes n h)
+
+short-verdict : (n : ℕ) (ms : List Mark) → n ≤ maxBytes → headerVerdict n ms ≡ given (not (isGranted (faultFrom 1 ms))) (faultFrom 1 ms) (headVerdict ms)
+unfolding headerVerdict given
+short-verdict n ms h = rw (le-ltb maxBytes n h)
 
 pub refused-heading : (text : List ℕ) (v : Verdict) → v ≡ headerVerdict (length text) (marks text) → isGranted v ≡ false → FoundHeading text (refusedHeading v (length text))
 unfolding restPlace
@@ -81,15 +86,15 @@ module _ (text : List ℕ) (teams : ℕ) (head : Head) (row : Row) (survey : Sur
       → o ≡ openingOf (row .five)
       → good ≡ opens o
       → limits ≡ given (not good) (ruled 20 (head .line)) granted
-      → numbers ≡ given (not (eqb (row .count) headerNumbers)) (ruled 24 (head .line)) limits
+      → numbers ≡ given (not (isHeader (row .count))) (ruled 24 (head .line)) limits
       → fault ≡ given (not (eqb (row .fault) 0)) (ruled (row .fault) (head .line)) (survey .fault)
       → v ≡ given (not (isGranted fault)) fault numbers
       → v ≡ headerVerdict (length text) (marks text)
-  unfolding headerVerdict headVerdict
+  unfolding headVerdict
   found-verdict h o good limits numbers fault v p d l c e is =
       is
       ∙ rw
-      (le-ltb maxBytes (length text) h, e, found-fault, c, l, d, p)
+      (short-verdict (length text) (marks text) h, e, found-fault, c, l, d, p)
       (later-tests (isGranted (faultFrom 1 (marks text))) (faultFrom 1 (marks text)) _ (headVerdict (marks text)) refl (λ g. let t = all-told g in rw (t .line, t .count, t .opening)))
 
   heading-by : (b : Bool) (v : Verdict) (o : Opening) → o ≡ openingOf (row .five) → teams ≡ natOf (o .teams) → v ≡ headerVerdict (length text) (marks text) → isGranted v ≡ b → FoundHeading text (cond b (record { verdict = v; opening = o; tally = survey .tally; end = row .end }) (refusedHeading v (length text)))

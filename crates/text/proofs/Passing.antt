@@ -38,11 +38,12 @@ line-least false line = omega arith
 
 -- ---- the earliest byte with 22 or 23
 large-first : (b : Bool) (line : ℕ) (v : Verdict) → given (not (eqb (cond b 23 0) 0)) (ruled (cond b 23 0) line) v ≡ given b (ruled 23 line) v
+unfolding given
 large-first true line v = refl
 large-first false line v = refl
 
 fault-first : (n line : ℕ) (ms : List Mark) → given (not (eqb (faultOf (tokenOf n ms)) 0)) (ruled (faultOf (tokenOf n ms)) line) (faultFrom (lineAfter (tokenOf n ms) line) (later ms)) ≡ faultFrom line ms
-unfolding tokenOf faultFrom
+unfolding tokenOf faultFrom given
 fault-first n line [] = refl
 fault-first n line (lineEnd k ∷ ms) = refl
 fault-first n line (number ds k ∷ ms) = rw (number-large ds) (large-first (tooLarge ds) line (faultFrom line ms))
@@ -53,6 +54,7 @@ fault-passed : (text : List ℕ) (place line : ℕ) (t : Token) → Moves text p
 fault-passed text place line t m = rw (m .rest, m .is) (fault-first (length text) line (marks (drop place text)))
 
 fault-later : (text : List ℕ) (place line : ℕ) (t : Token) → Moves text place t → faultOf t ≡ 0 → faultFrom (lineAfter t line) (marks (drop (t .end) text)) ≡ faultFrom line (marks (drop place text))
+unfolding given
 fault-later text place line t m e = rw e at (fault-passed text place line t m)
 
 -- ---- the first number
@@ -195,6 +197,7 @@ line-ends false true e h = absurd (false≢true e)
 line-ends false false e h = h
 
 ends-on : (a b : Bool) (on : ℕ) (v : Verdict) (ms : List Mark) → (a || not b) ≡ true → given (not b) v (faultFrom (on + 1) ms) ≡ given (not b) v (faultFrom (cond a (on + 1) on) ms)
+unfolding given
 ends-on true b on v ms e = refl
 ends-on false true on v ms e = absurd (false≢true e)
 ends-on false false on v ms e = refl
@@ -260,7 +263,7 @@ row-ends text from place row t r m e =
     }
 
 pub row-stops : (text : List ℕ) (from place : ℕ) (row : Row) → length text ≤ place → Rowing text (marks (drop from text)) place row → marks (drop place text) ≡ [] → FoundRow text from row
-unfolding faultFrom lineNumbers afterLine leftAfter
+unfolding faultFrom lineNumbers afterLine leftAfter given
 row-stops text from place row h r e =
     let ms = marks (drop from text) in
     let count : row .count + 0 ≡ length (lineNumbers ms) = rw e at (r .count) in
@@ -341,6 +344,7 @@ earlier-last (suc s) = simp (some s)
 
 module _ (text : List ℕ) (from on teams place line : ℕ) (tally : Tally) (r : Tallying text (marks (drop from text)) from on teams place line tally) where
   pub tally-stops : (t : Token) → Moves text place t → eqb (faultOf t) 0 ≡ false → FoundSurvey text from on teams (record { fault = ruled (faultOf t) line; tally = tally })
+  unfolding given
   tally-stops t m z =
       record { fault = (rw z at (fault-passed text place line t m)) ∙ r .fault; tally = λ g. absurd (false≢true (sym z ∙ g)) }
 

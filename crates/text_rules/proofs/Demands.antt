@@ -1,29 +1,28 @@
 -- The proofs of specs/Demands.antt.
 use mathlib.Core.Path.{_≡_, refl, sym, ap, subst, _∙_}
-use mathlib.Core.Bool.{Bool, true, false, cond, not, _&&_, _||_, true≢false, false≢true}
+use mathlib.Core.Bool.{Bool, true, false, cond, not, _&&_, true≢false, false≢true}
 use mathlib.Core.List.{List, [], _∷_}
 use Prim.Native.Nat.{ℕ, suc, _+_, _*_, _≤_, _<_}
 use native.Mathlib.Omega.{arith}
 use lib.Dec.{eqb, leb, ltb}
-use lib.ListN.{length, drop}
+use lib.ListN.{length, drop, drop-of-length-le}
 use lib.IntN.{pos}
-use borrow.Author.Tests.{eq-eqb, leb-true, ltb-true, ltb-false, le-ltb}
+use borrow.Author.Tests.{eq-eqb, ne-eqb, leb-true, ltb-true, ltb-false, le-ltb}
 use Rattle.numbers.proofs.Laws.{signed-is}
 use Rattle.numbers.specs.Progress.{signed}
-use Rattle.rules.specs.Limits.{opens}
 use Rattle.text_rules.specs.declared.Class.{Class}
 use Rattle.text_rules.specs.declared.Class.the-variants.{LineEnd, Hash, Blank, Digit, Other}
 use Rattle.text_rules.specs.declared.Verdict.{Verdict}
 use Rattle.text_rules.specs.declared.Token.{Token}
-use Rattle.text_rules.specs.Bytes.{classOf, isDigit}
+use Rattle.text_rules.specs.Bytes.{isNumeral, isBlank, classOf, isDigit}
 use Rattle.text_rules.specs.Marks.{Mark, lineEnd, number, wrong, inComment, startsDigit, longer, added, marksFrom, marks}
 use Rattle.text_rules.specs.Digits.{value, tooLarge, numberOf}
 use Rattle.text_rules.specs.Lines.{headLine, fromHead, afterLine, numbersOf}
-use Rattle.text_rules.specs.Judgement.{maxBytes, headerNumbers, ruled, granted, isGranted, given, faultFrom, openingOf, headOf, headVerdict, headerVerdict, scheduleMarks, scheduleNumbers, teamsOf, strangerFrom, strangerLine, bodyVerdict, scheduleVerdict}
-use Rattle.text_rules.specs.Answers.{headerOf, restPlace, scheduleOf, areaOf}
+use Rattle.text_rules.specs.Judgement.{maxBytes, isGranted, given, faultFrom, headVerdict, headerVerdict, scheduleMarks, scheduleNumbers, teamsOf, isTeam, strangerFrom, bodyVerdict, scheduleVerdict}
+use Rattle.text_rules.specs.Answers.{headerOf, restPlace, restOf, scheduleOf, areaOf}
 use Rattle.text_rules.specs.declared.Kind.the-variants as kind
 use Rattle.text_rules.specs.Tokens.{tokenOf, tokenAt}
-use Rattle.text_rules.specs.Demands.{scheduleRoom, SameButComments, nothing, same, other, CommentsNeverMatter, AllTeams, none, more, GrantedIsWithinLimits, AllExact, exact, GrantedIsExact, NeverShort, Scans, ended, found, tokensOf, ScannerFindsTheMarks}
+use Rattle.text_rules.specs.Demands.{scheduleRoom, SameButComments, nothing, same, other, CommentsNeverMatter, RefusedChangesNothing, AllTeams, none, more, GrantedIsWithinLimits, AllExact, exact, GrantedIsExact, NeverShort, Scans, ended, found, tokensOf, ScannerFindsTheMarks}
 use Rattle.text_rules.proofs.Marks.{later, moves, at-end}
 use Rattle.text_rules.proofs.Digits.{small-value}
 use Rattle.text_rules.proofs.Granted.{passed, header-granted, schedule-granted, granted-is}
@@ -61,7 +60,7 @@ quiet false false false = record { says = λ b bs ms. refl; stays = refl }
 
 quiet-byte : (b : ℕ) → eqb b 10 ≡ false → Quiet (classOf b)
 unfolding classOf
-quiet-byte b e = rw e (quiet (eqb b 35) (eqb b 32 || eqb b 9 || eqb b 13) (leb 48 b && leb b 57))
+quiet-byte b e = rw e (quiet (eqb b 35) (isBlank b) (isNumeral b))
 
 passed-over : (b : ℕ) (bs : List ℕ) → eqb b 10 ≡ false → marksFrom true (b ∷ bs) ≡ marksFrom true bs
 unfolding marksFrom
@@ -85,11 +84,28 @@ comments-never-matter s t r =
       area = λ area. rw (marked, sized);
     }
 
+-- ---- what is refused changes nothing
+pub refused-changes-nothing : RefusedChangesNothing
+unfolding headerOf restOf restPlace scheduleOf areaOf
+refused-changes-nothing text = (
+  λ r. let e = ne-eqb (headerVerdict (length text) (marks text) .code) 0 r in
+      record { opening = rw e; rest = rw e (drop-of-length-le text {i = length text} (omega arith)) },
+  λ area r. let e = ne-eqb (scheduleVerdict (length area) (length text) (marks text) .code) 0 r in
+      record { opening = rw e; count = rw e; stays = rw e },
+)
+
 -- ---- what is granted lies within the limits
-one-team : (teams line n rest : ℕ) (a b : Bool) → leb 1 n ≡ a → leb n teams ≡ b → 1 ≤ line → cond (a && b) rest line ≡ 0 → (1 ≤ n) × (n ≤ teams) × (rest ≡ 0)
-one-team teams line n rest true true p q h e = (leb-true 1 n p, leb-true n teams q, e)
-one-team teams line n rest true false p q h e = absurd (omega (arith, e))
-one-team teams line n rest false b p q h e = absurd (omega (arith, e))
+team-is : (teams n : ℕ) (a b : Bool) → leb 1 n ≡ a → leb n teams ≡ b → (a && b) ≡ true → (1 ≤ n) × (n ≤ teams)
+team-is teams n true true p q e = (leb-true 1 n p, leb-true n teams q)
+team-is teams n true false p q e = absurd (false≢true e)
+team-is teams n false b p q e = absurd (false≢true e)
+
+a-team : (teams n : ℕ) → isTeam teams n ≡ true → (1 ≤ n) × (n ≤ teams)
+a-team teams n e = team-is teams n (leb 1 n) (leb n teams) refl refl e
+
+no-stranger : (b : Bool) (line rest : ℕ) → 1 ≤ line → cond b rest line ≡ 0 → (b ≡ true) × (rest ≡ 0)
+no-stranger true line rest h e = (refl, e)
+no-stranger false line rest h e = absurd (omega (arith, e))
 
 all-teams : (teams line : ℕ) (ms : List Mark) → 1 ≤ line → strangerFrom teams line ms ≡ 0 → AllTeams teams (numbersOf ms)
 unfolding strangerFrom numbersOf
@@ -97,8 +113,9 @@ all-teams teams line [] h e = none
 all-teams teams line (lineEnd k ∷ ms) h e = all-teams teams (line + 1) ms (omega arith) e
 all-teams teams line (number ds k ∷ ms) h e =
     let n = numberOf ds in
-    let one = one-team teams line n (strangerFrom teams line ms) (leb 1 n) (leb n teams) refl refl h e in
-    more (one .0) (one .1) (all-teams teams line ms h (one .2))
+    let one = no-stranger (isTeam teams n) line (strangerFrom teams line ms) h e in
+    let team = a-team teams n (one .0) in
+    more (team .0) (team .1) (all-teams teams line ms h (one .1))
 all-teams teams line (wrong k ∷ ms) h e = all-teams teams line ms h e
 
 pub granted-within-limits : GrantedIsWithinLimits
@@ -124,9 +141,9 @@ exact-number false ds e f = rw e (signed-is (value ds) (small-value ds e))
 all-exact : (line : ℕ) (ms : List Mark) → isGranted (faultFrom line ms) ≡ true → AllExact ms
 unfolding faultFrom
 all-exact line [] g = none
-all-exact line (lineEnd k ∷ ms) g = AllExact.line (all-exact (line + 1) ms g)
+all-exact line (lineEnd k ∷ ms) g = AllExact.line (all-exact _ ms g)
 all-exact line (number ds k ∷ ms) g =
-    let p = passed (tooLarge ds) (ruled 23 line) (faultFrom line ms) refl g in
+    let p = passed _ _ _ refl g in
     exact (exact-number (tooLarge ds) ds refl (p .0)) (all-exact line ms (p .1))
 all-exact line (wrong k ∷ ms) g = absurd (false≢true g)
 
@@ -205,45 +222,38 @@ Short : Verdict → Type 0
 Short v = v .code ≡ 27
 
 given-short : (b : Bool) (v rest : Verdict) → (Short v → ⊥) → (Short rest → ⊥) → Short (given b v rest) → ⊥
-unfolding Short
+unfolding Short given
 given-short true v rest f g = f
 given-short false v rest f g = g
+
+test-short : (b : Bool) (v rest : Verdict) → b ≡ false → (Short rest → ⊥) → Short (given b v rest) → ⊥
+unfolding given
+test-short b v rest e g = rw e g
 
 fault-short : (line : ℕ) (ms : List Mark) → Short (faultFrom line ms) → ⊥
 unfolding faultFrom Short
 fault-short line [] e = omega (arith, e)
-fault-short line (lineEnd k ∷ ms) e = fault-short (line + 1) ms e
-fault-short line (number ds k ∷ ms) e = given-short (tooLarge ds) (ruled 23 line) (faultFrom line ms) (λ z. omega (arith, z)) (fault-short line ms) e
+fault-short line (lineEnd k ∷ ms) e = fault-short _ ms e
+fault-short line (number ds k ∷ ms) e = given-short _ _ _ (λ z. omega (arith, z)) (fault-short line ms) e
 fault-short line (wrong k ∷ ms) e = omega (arith, e)
 
 head-short : (ms : List Mark) → Short (headVerdict ms) → ⊥
 unfolding headVerdict Short
 head-short ms =
-    given-short
-    (not (eqb (length (headOf ms)) headerNumbers))
-    (ruled 24 (headLine 1 ms))
-    (given (not (opens (openingOf (headOf ms)))) (ruled 20 (headLine 1 ms)) granted)
-    (λ z. omega (arith, z))
-    (given-short (not (opens (openingOf (headOf ms)))) (ruled 20 (headLine 1 ms)) granted (λ z. omega (arith, z)) (λ z. omega (arith, z)))
+    given-short _ _ _ (λ z. omega (arith, z)) (given-short _ _ _ (λ z. omega (arith, z)) (λ z. omega (arith, z)))
 
 header-short : (n : ℕ) (ms : List Mark) → Short (headerVerdict n ms) → ⊥
 unfolding headerVerdict Short
 header-short n ms =
-    given-short
-    (ltb maxBytes n)
-    (ruled 21 0)
-    (given (not (isGranted (faultFrom 1 ms))) (faultFrom 1 ms) (headVerdict ms))
-    (λ z. omega (arith, z))
-    (given-short (not (isGranted (faultFrom 1 ms))) (faultFrom 1 ms) (headVerdict ms) (fault-short 1 ms) (head-short ms))
+    given-short _ _ _ (λ z. omega (arith, z)) (given-short _ _ _ (fault-short 1 ms) (head-short ms))
 
 body-short : (ms : List Mark) → length (scheduleNumbers ms) ≤ scheduleRoom → Short (bodyVerdict scheduleRoom ms) → ⊥
 unfolding bodyVerdict Short
 body-short ms h =
-    rw
-    (le-ltb scheduleRoom (length (scheduleNumbers ms)) h)
-    (given-short (not (eqb (strangerLine ms) 0)) (ruled 26 (strangerLine ms)) granted (λ z. omega (arith, z)) (λ z. omega (arith, z)))
+    given-short _ _ _ (λ z. omega (arith, z)) (test-short _ _ _ (le-ltb scheduleRoom (length (scheduleNumbers ms)) h) (λ z. omega (arith, z)))
 
 short-by : (b : Bool) (text : List ℕ) → isGranted (headerVerdict (length text) (marks text)) ≡ b → Short (given (not b) (headerVerdict (length text) (marks text)) (bodyVerdict scheduleRoom (marks text))) → ⊥
+unfolding given
 short-by true text g = body-short (marks text) (enough text (ltb-false maxBytes (length text) (header-granted (length text) (marks text) g .0)))
 short-by false text g = header-short (length text) (marks text)
 

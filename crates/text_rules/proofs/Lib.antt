@@ -1,3 +1,4 @@
+pub mod Computed
 pub mod Digits
 pub mod Marks
 pub mod Granted

@@ -5,12 +5,19 @@ use lib.Dec.{eqb, leb}
 use Rattle.text_rules.specs.declared.Class.{Class}
 use Rattle.text_rules.specs.declared.Class.the-variants.{LineEnd, Hash, Blank, Digit, Other}
 
+-- the digits 0 to 9 in ASCII
+abbrev pub isNumeral : ℕ → Bool
+isNumeral b = leb 48 b && leb b 57
+
+abbrev pub isBlank : ℕ → Bool
+isBlank b = eqb b 32 || eqb b 9 || eqb b 13
+
 unfoldable pub classOf : ℕ → Class
 classOf b =
     cond (eqb b 10) LineEnd
     (cond (eqb b 35) Hash
-    (cond (eqb b 32 || eqb b 9 || eqb b 13) Blank
-    (cond (leb 48 b && leb b 57) Digit
+    (cond (isBlank b) Blank
+    (cond (isNumeral b) Digit
     Other)))
 
 abbrev pub isDigit : Class → Bool

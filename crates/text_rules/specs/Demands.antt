@@ -15,7 +15,7 @@ use Rattle.text_rules.specs.Bytes.{classOf}
 use Rattle.text_rules.specs.Marks.{Mark, lineEnd, number, inComment, marks}
 use Rattle.text_rules.specs.Digits.{value, numberOf}
 use Rattle.text_rules.specs.Judgement.{scheduleNumbers}
-use Rattle.text_rules.specs.Answers.{headerOf, restPlace, scheduleOf, areaOf}
+use Rattle.text_rules.specs.Answers.{noOpening, headerOf, restPlace, restOf, scheduleOf, areaOf}
 use Rattle.text_rules.specs.Tokens.{tokenOf, tokenAt}
 
 -- Two texts of one length that differ only in bytes other than LF inside comments, where both begin inside a comment or both outside.
@@ -33,6 +33,22 @@ pub record SameAnswers (s t : List ℕ) : Type 0 where
 
 abbrev pub CommentsNeverMatter : Type 0
 CommentsNeverMatter = (s t : List ℕ) → SameButComments false s t → SameAnswers s t
+
+-- "refused, these numbers are 0 and the area stays"; the rest is empty.
+pub record RefusedHeader (text : List ℕ) : Type 0 where
+  pub opening : headerOf text .opening ≡ noOpening
+  pub rest : restOf text ≡ []
+
+pub record RefusedSchedule (area : List ℤ) (text : List ℕ) : Type 0 where
+  pub opening : scheduleOf (length area) text .opening ≡ noOpening
+  pub count : scheduleOf (length area) text .count ≡ 0
+  pub stays : areaOf text area ≡ area
+
+abbrev pub RefusedChangesNothing : Type 0
+RefusedChangesNothing =
+    (text : List ℕ)
+    → ((headerOf text .code ≡ 0 → ⊥) → RefusedHeader text)
+    × ((area : List ℤ) → (scheduleOf (length area) text .code ≡ 0 → ⊥) → RefusedSchedule area text)
 
 -- Each of the numbers is one of 1..teams.
 pub data AllTeams (teams : ℕ) : List ℕ → Type 0 where

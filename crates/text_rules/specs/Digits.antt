@@ -25,7 +25,7 @@ tooLarge ds = ltb maxDigits (length ds) || ltb maxNumber (value ds)
 
 -- what a number that is refused is read as: no number within the limits
 abbrev pub refusedNumber : ℕ
-refusedNumber = 2147483648
+refusedNumber = maxNumber + 1
 
 -- what the digits are read as
 unfoldable pub numberOf : List ℕ → ℕ

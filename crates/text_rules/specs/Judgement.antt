@@ -19,9 +19,13 @@ use Rattle.text_rules.specs.Lines.{headLine, fromHead, lineNumbers, afte
 abbrev pub maxBytes : ℕ
 maxBytes = 65535
 
--- the numbers of a header: start, until, teams, cap, nodes
+-- how many numbers a header has: start, until, teams, cap, nodes
 abbrev pub headerNumbers : ℕ
 headerNumbers = 5
+
+-- "exactly five"
+abbrev pub isHeader : ℕ → Bool
+isHeader count = eqb count headerNumbers
 
 abbrev pub ruled : ℕ → ℕ → Verdict
 ruled code line = record { code = code; line = line }
@@ -34,7 +38,7 @@ abbrev pub isGranted : Verdict → Bool
 isGranted v = eqb (v .code) 0
 
 -- the refusal where the test holds, and else what the later tests give
-abbrev pub given : Bool → Verdict → Verdict → Verdict
+unfoldable pub given : Bool → Verdict → Verdict → Verdict
 given holds refusal later = cond holds refusal later
 
 -- the earliest byte with 22 or 23, where the marks begin on the given line: a number stands at its first byte
@@ -61,7 +65,7 @@ headOf ms = lineNumbers (fromHead ms)
 -- 24: "first line with a number has not exactly five, or no such line"; 20: "opening values outside limits"
 unfoldable pub headVerdict : List Mark → Verdict
 headVerdict ms =
-    given (not (eqb (length (headOf ms)) headerNumbers)) (ruled 24 (headLine 1 ms))
+    given (not (isHeader (length (headOf ms)))) (ruled 24 (headLine 1 ms))
     (given (not (opens (openingOf (headOf ms)))) (ruled 20 (headLine 1 ms))
     granted)
 

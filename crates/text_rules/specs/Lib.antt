@@ -8,3 +8,4 @@ pub mod Judgement
 pub mod Answers
 pub mod Tokens
 pub mod Demands
+pub mod Examples
