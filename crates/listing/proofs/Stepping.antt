@@ -37,14 +37,13 @@ use Rattle.rules.proofs.Store.{stolen-put}
 use Rattle.rules.proofs.Tree.{InUse}
 use Rattle.steps.specs.declared.Team.{Team}
 use Rattle.steps.specs.declared.Turned.{Turned}
-use Rattle.steps.specs.Places.{scan}
 use Rattle.steps.specs.Records.{freshTeam, noTeam, isStopped}
 use Rattle.steps.specs.Step.{slotOf, recordOf, lentCode, lentStep, stepUnless, recordsAfter}
 use Rattle.steps.specs.Turn.{asks, moves, still, turning, turned, carried}
-use Rattle.steps.specs.Run.{Run, stepTeam, runTeams}
+use Rattle.steps.specs.Run.{Run, stepTeam, runSteps}
 use Rattle.steps.proofs.Fits.{Fit}
 use Rattle.steps.proofs.Runs.{opened-used}
-use Rattle.steps.proofs.Turns.{scan-turn, scan-node}
+use Rattle.steps.proofs.Turns.{step-turn, asks-node}
 use Rattle.places.specs.Ready.{Ready}
 use Rattle.line_rules.specs.Line.{Line}
 use Rattle.listing_rules.specs.Steps.{runWith, runFrom, startOf, endOf, stepLine, noteOf, notes, lastLine}
@@ -96,14 +95,14 @@ module _ (l : Ledger) (w : WF l) (number : ℕ) (r : Team) (cap : ℕ) (fit : Fi
       go (yes h) = (omega (arith, within-range l w (r .node) (fit .low) h .high, w .until-limit), child h (decLe 1 (x .left)))
       go (no h) = rw (w .blank (r .node) (omega arith)) (omega arith, omega arith)
 
--- ---- a turn of a team that scans
+-- ---- a turn of a team
 
 module _ (number cap : ℕ) (l : Ledger) (r : Team) where
   abbrev turn : Turned
-  turn = turned scan number cap r (view l (r .node))
+  turn = turned number cap r (view l (r .node))
 
   abbrev turnBy : Bool → Turned
-  turnBy stopped = cond stopped (still r) (turning (view l (r .node)) (asks scan number r) (moves scan number cap r))
+  turnBy stopped = cond stopped (still r) (turning (view l (r .node)) (asks number r) (moves number cap r))
 
   pub turn-changes : Changes l (r .node) (turn .change)
   unfolding turned
@@ -111,7 +110,7 @@ module _ (number cap : ℕ) (l : Ledger) (r : Team) where
     where
       go : (b : Bool) → isStopped (r .place) ≡ b → Changes l (r .node) (turnBy b .change)
       go true e = keeps
-      go false e = rw (scan-node number r e) at (changes l (asks scan number r))
+      go false e = rw (asks-node number r e) at (changes l (asks number r))
 
   -- the node that is changed is that of the record
   turn-node : changed l (turn .node) (turn .change) ≡ changed l (r .node) (turn .change)
@@ -120,7 +119,7 @@ module _ (number cap : ℕ) (l : Ledger) (r : Team) where
     where
       go : (b : Bool) → isStopped (r .place) ≡ b → changed l (turnBy b .node) (turnBy b .change) ≡ changed l (r .node) (turnBy b .change)
       go true e = unfold changed in refl
-      go false e = rw (scan-node number r e)
+      go false e = rw (asks-node number r e)
 
 -- ---- a step
 
@@ -128,16 +127,16 @@ module _ (cap : ℕ) (l : Ledger) (w : WF l) (rs : List Team) (number : ℤ) (pa
   abbrev t : Turned
   t = turn (natOf number) cap l (recordOf rs number)
 
-  lent-is : lentStep scan l number (pos cap) rs ≡ carried l t
+  lent-is : lentStep l number (pos cap) rs ≡ carried l t
   unfolding lentStep stepUnless
-  lent-is = rw passes (scan-turn (natOf number) cap l w (recordOf rs number))
+  lent-is = rw passes (step-turn (natOf number) cap l w (recordOf rs number))
 
-  pub step-is : stepTeam (λ t. scan) (pos cap) (runWith l rs) number
+  pub step-is : stepTeam (pos cap) (runWith l rs) number
       ≡ runWith (changed l (recordOf rs number .node) (t .change)) (set rs (slotOf number) (t .team))
   unfolding stepTeam recordsAfter
   step-is = rw (lent-is, turn-node (natOf number) cap l (recordOf rs number))
 
-  pub note-is : stepLine number (lentStep scan l number (pos cap) rs) ≡ noteOf number (t .kind) (t .node) (t .answer)
+  pub note-is : stepLine number (lentStep l number (pos cap) rs) ≡ noteOf number (t .kind) (t .node) (t .answer)
   note-is = rw lent-is
 
 -- ---- the table after a change, as the code stores it
@@ -210,14 +209,14 @@ module _ (l : Ledger) (w : WF l) (n : ℕ) where
 -- ---- a run one step longer
 
 run-append : (cap : ℤ) (u : Run) (s t : List ℤ) → runFrom cap u (s ++ t) ≡ runFrom cap (runFrom cap u s) t
-unfolding runTeams
+unfolding runSteps
 run-append cap u [] t = refl
-run-append cap u (n ∷ s) t = run-append cap (stepTeam (λ t. scan) cap u n) s t
+run-append cap u (n ∷ s) t = run-append cap (stepTeam cap u n) s t
 
 notes-append : (cap : ℤ) (u : Run) (s t : List ℤ) → notes cap u (s ++ t) ≡ notes cap u s ++ notes cap (runFrom cap u s) t
-unfolding runTeams notes
+unfolding runSteps notes
 notes-append cap u [] t = refl
-notes-append cap u (n ∷ s) t = rw (notes-append cap (stepTeam (λ t. scan) cap u n) s t) (simp append-assoc)
+notes-append cap u (n ∷ s) t = rw (notes-append cap (stepTeam cap u n) s t) (simp append-assoc)
 
 module _ (cap : ℤ) (u : Run) (s : List ℤ) (i : ℕ) (less : i < length s) where
   abbrev team : ℤ
@@ -226,10 +225,10 @@ module _ (cap : ℤ) (u : Run) (s : List ℤ) (i : ℕ) (less : i < length s) wh
   abbrev sofar : Run
   sofar = runFrom cap u (take i s)
 
-  pub run-more : runFrom cap u (take (i + 1) s) ≡ stepTeam (λ t. scan) cap sofar team
-  run-more = rw (add-one, take-suc s i (pos 0) less, run-append) (unfold runTeams in refl)
+  pub run-more : runFrom cap u (take (i + 1) s) ≡ stepTeam cap sofar team
+  run-more = rw (add-one, take-suc s i (pos 0) less, run-append) (unfold runSteps in refl)
 
-  pub notes-more : notes cap u (take (i + 1) s) ≡ notes cap u (take i s) ++ stepLine team (lentStep scan (sofar .ledger) team cap (sofar .records))
+  pub notes-more : notes cap u (take (i + 1) s) ≡ notes cap u (take i s) ++ stepLine team (lentStep (sofar .ledger) team cap (sofar .records))
   notes-more = rw (add-one, take-suc s i (pos 0) less, notes-append) (unfold notes in (rw append-nil))
 
 -- ---- the loop's step
@@ -281,7 +280,7 @@ module _ {o : Opening} {cap : ℕ} {u : Run} (b : Begun o cap u) (s : List ℤ) 
       → x ≡ nodeFor (getD rs slot noTeam .node) (getD (l .nodes) place blank)
       → v ≡ viewBy (l .teams) (l .room) (l .used) stolen x
       → k ≡ natOf number
-      → (Ready k (getD rs slot noTeam) v → t ≡ turned scan k cap (getD rs slot noTeam) v)
+      → (Ready k (getD rs slot noTeam) v → t ≡ turned k cap (getD rs slot noTeam) v)
       → (t ≡ taken) × (x ≡ at l (recordOf rs number .node))
   taken-is slot place stolen k x v t es ep ec ex ev ek et =
       let w = stand .wf in

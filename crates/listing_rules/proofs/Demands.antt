@@ -23,7 +23,8 @@ use Rattle.steps.specs.declared.Team.{Team}
 use Rattle.steps.specs.Records.{isStopped}
 use Rattle.steps.specs.Step.{recordOf}
 use Rattle.steps.specs.Run.{stoppedTo, stoppedTeams}
-use Rattle.steps.proofs.Demands.{scan-leaves-nothing}
+use Rattle.steps.proofs.Nothing.{nothing-left}
+use Rattle.steps.proofs.Runs.{all-fresh}
 use Rattle.text_rules.specs.Marks.{marks}
 use Rattle.text_rules.specs.Judgement.{scheduleNumbers}
 use Rattle.text_rules.specs.Answers.{scheduleOf}
@@ -209,7 +210,7 @@ all-stopped-none-left room bytes before count good e =
     let stopped : signed (stoppedTeams u) ≡ o .teams = cc in
     let left : count ≡ signed (unclaimed (u .ledger)) = cc in
     let all : stoppedTeams u ≡ u .ledger .teams = omega (arith, ap natOf stopped, few-stopped room bytes good, end-here room bytes good .teams-are) in
-    let none : unclaimed (u .ledger) ≡ 0 = scan-leaves-nothing o (o .cap) maxTeams (teamsIn bytes) (ok room bytes good) (opens-facts o (ok room bytes good) .teams .high) all in
+    let none : unclaimed (u .ledger) ≡ 0 = nothing-left o _ _ (ok room bytes good) (all-fresh maxTeams (natOf (o .teams)) (opens-facts o (ok room bytes good) .teams .high)) all in
     left ∙ rw none
 
 pub whole-or-refused : WholeOrRefused

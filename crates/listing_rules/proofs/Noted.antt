@@ -29,12 +29,11 @@ use Rattle.rules.proofs.Range.{within-range}
 use Rattle.rules.proofs.Record.{WF}
 use Rattle.steps.specs.declared.Team.{Team}
 use Rattle.steps.specs.declared.Stepped.{Stepped}
-use Rattle.steps.specs.Places.{scan}
 use Rattle.steps.specs.Records.{isStopped}
 use Rattle.steps.specs.Step.{asking, resting, recordOf, lentCode, lentStep, stepUnless, stepFrom}
 use Rattle.steps.specs.Turn.{asks, moves}
-use Rattle.steps.specs.Run.{Run, stepTeam, runTeams}
-use Rattle.steps.proofs.Turns.{scan-team}
+use Rattle.steps.specs.Run.{Run, stepTeam, runSteps}
+use Rattle.steps.proofs.Turns.{asks-team}
 use Rattle.line_rules.specs.Line.{Line, batchLine, splitLine, anyNegative}
 use Rattle.line_rules.proofs.Demands.{at-most-40}
 use Rattle.listing_rules.specs.Steps.{noteOf, stepLine, runWith, runFrom, startOf, notes, runLines}
@@ -124,19 +123,19 @@ module _ (cap : ℕ) (l : Ledger) (w : WF l) (rs : List Team) (team : ℤ) (pass
   r = recordOf rs team
 
   abbrev q : Request
-  q = asks scan (natOf team) r
+  q = asks (natOf team) r
 
   abbrev byStop : Bool → Stepped
-  byStop b = cond b (resting l r) (asking l q (moves scan (natOf team) cap r))
+  byStop b = cond b (resting l r) (asking l q (moves (natOf team) cap r))
 
-  step-tells : RunTells l 1 (stepLine team (lentStep scan l team (pos cap) rs)) (asksIn (runWith l rs) team) (lentStep scan l team (pos cap) rs .ledger)
+  step-tells : RunTells l 1 (stepLine team (lentStep l team (pos cap) rs)) (asksIn (runWith l rs) team) (lentStep l team (pos cap) rs .ledger)
   unfolding lentStep stepUnless stepFrom
   step-tells = rw passes (go (isStopped (r .place)) refl)
     where
       go : (b : Bool) → isStopped (r .place) ≡ b
           → RunTells l 1 (stepLine team (byStop b)) (cond b [] (q ∷ [])) (byStop b .ledger)
       go true e = unfold afterAll batches in (record { ledger = refl; told = rw (silent team 0 0 (refused 0) refl refl) (nothing-noted 1) })
-      go false e = unfold afterAll batches in (record { ledger = refl; told = request-noted l w q team (sym (scan-team (natOf team) r e)) positive })
+      go false e = unfold afterAll batches in (record { ledger = refl; told = request-noted l w q team (sym (asks-team (natOf team) r e)) positive })
 
 -- ---- a run
 
@@ -182,11 +181,11 @@ module _ (o : Opening) (ok : opens o ≡ true) where
   -- each of the schedule's numbers is a team's
   pub run-tells : (u : Run) (s : List ℤ) → ((i : ℕ) → i < length s → within (getD s i (pos 0)) 1 (natOf (o .teams)) ≡ true) → Fits o ok u
       → RunTells (u .ledger) (length s) (notes (pos most) u s) (asked (pos most) u s) (runFrom (pos most) u s .ledger)
-  unfolding runTeams notes asked stepTeam
+  unfolding runSteps notes asked stepTeam
   run-tells u [] each g = nothing-told (u .ledger)
   run-tells u (t ∷ s) each g =
       let here = here-of o ok (u .ledger) (u .records) g in
       let mine = each 0 (omega arith) in
       told-more
       (step-tells most (u .ledger) (here .wf) (u .records) t (here .passes t mine) (within-true t 1 (natOf (o .teams)) mine .is))
-      (run-tells (stepTeam (λ t. scan) (pos most) u t) s (λ i h. each (suc i) (omega arith)) (step-fits o ok u t g))
+      (run-tells (stepTeam (pos most) u t) s (λ i h. each (suc i) (omega arith)) (step-fits o ok u t g))

@@ -12,12 +12,11 @@ use Rattle.rules.specs.Limits.{opens, maxCap, maxTeams}
 use Rattle.rules.proofs.Opens.{opens-facts}
 use Rattle.rules.proofs.Record.{WF}
 use Rattle.steps.specs.declared.Team.{Team}
-use Rattle.steps.specs.Places.{scan}
 use Rattle.steps.specs.Step.{recordOf, lentCode}
-use Rattle.steps.specs.Run.{Run, stepTeam, runTeams}
-use Rattle.steps.proofs.Fits.{Fit, scan-roams}
+use Rattle.steps.specs.Run.{Run, stepTeam, runSteps}
+use Rattle.steps.proofs.Fits.{Fit}
 use Rattle.steps.proofs.Refused.{Fitting, run-fits, never-refused-at, begun-fits}
-use Rattle.steps.proofs.Seeks.{AtRoot, scan-seeks}
+use Rattle.steps.proofs.Runs.{all-fresh}
 use Rattle.listing_rules.specs.Steps.{runWith, runFrom, startOf}
 
 -- the run u begins with an opening, in a run with this cap
@@ -42,18 +41,18 @@ module _ (o : Opening) (ok : opens o ≡ true) where
   limited = let f = opens-facts o ok .cap in within-made cap 1 maxCap (f .low) (f .high)
 
   abbrev pub Fits : Run → Type 0
-  Fits u = Fitting (λ t. scan) (λ t. AtRoot) (λ t. scan-seeks t) (λ t. scan-roams t) (pos cap) limited (natOf (o .teams)) u
+  Fits u = Fitting (pos cap) limited (natOf (o .teams)) u
 
   pub start-fits : Fits (startOf o)
   start-fits =
-      begun-fits (λ t. scan) (λ t. AtRoot) (λ t. scan-seeks t) (λ t. scan-roams t) (pos cap) limited o maxTeams ok (opens-facts o ok .teams .high)
+      begun-fits (pos cap) limited o _ ok (all-fresh maxTeams (natOf (o .teams)) (opens-facts o ok .teams .high))
 
   run-from-fits : (s : List ℤ) (u : Run) → Fits u → Fits (runFrom (pos cap) u s)
   run-from-fits s u g =
-      run-fits (λ t. scan) (λ t. AtRoot) (λ t. scan-seeks t) (λ t. scan-roams t) (pos cap) limited (natOf (o .teams)) s u g
+      run-fits (pos cap) limited (natOf (o .teams)) s u g
 
-  pub step-fits : (u : Run) (number : ℤ) → Fits u → Fits (stepTeam (λ t. scan) (pos cap) u number)
-  unfolding runTeams
+  pub step-fits : (u : Run) (number : ℤ) → Fits u → Fits (stepTeam (pos cap) u number)
+  unfolding runSteps
   step-fits u number g = run-from-fits (number ∷ []) u g
 
   pub here-of : (l : Ledger) (rs : List Team) → Fits (runWith l rs) → Here o cap l rs
@@ -64,7 +63,7 @@ module _ (o : Opening) (ok : opens o ≡ true) where
         teams-are = g .teams-are;
         fits = λ number h. let w = within-true number 1 (natOf (o .teams)) h in rw (w .is) (g .fits (natOf number) (w .low) (w .high));
         passes =
-            never-refused-at (λ t. scan) (λ t. AtRoot) (λ t. scan-seeks t) (λ t. scan-roams t) (pos cap) limited (natOf (o .teams)) (runWith l rs) g;
+            never-refused-at (pos cap) limited (natOf (o .teams)) (runWith l rs) g;
       }
 
 pub here : {o : Opening} {cap : ℕ} {u : Run} → Begun o cap u → (s : List ℤ) (l : Ledger) (rs : List Team)

@@ -5,7 +5,6 @@ use lib.IntN.{ℤ}
 use Rattle.numbers.specs.Fields.{natOf}
 use Rattle.rules.specs.declared.Request.{Request}
 use Rattle.rules.specs.Listing.{Batch}
-use Rattle.steps.specs.Places.{scan}
 use Rattle.steps.specs.Records.{isStopped}
 use Rattle.steps.specs.Step.{recordOf}
 use Rattle.steps.specs.Turn.{asks}
@@ -28,9 +27,9 @@ claimsIn (l ∷ ls) = claimsIn ls ++ claimIn l
 -- the request that a step of a team makes, or none
 abbrev pub asksIn : Run → ℤ → List Request
 asksIn u team =
-    cond (isStopped (recordOf (u .records) team .place)) [] (asks scan (natOf team) (recordOf (u .records) team) ∷ [])
+    cond (isStopped (recordOf (u .records) team .place)) [] (asks (natOf team) (recordOf (u .records) team) ∷ [])
 
 -- the requests of a run, in their order
 unfoldable pub asked : ℤ → Run → List ℤ → List Request
 asked cap u [] = []
-asked cap u (team ∷ later) = asksIn u team ++ asked cap (stepTeam (λ t. scan) cap u team) later
+asked cap u (team ∷ later) = asksIn u team ++ asked cap (stepTeam cap u team) later

@@ -5,6 +5,7 @@ use mathlib.Core.Bool.{Bool, cond, _&&_}
 use mathlib.Core.List.{List, [], _∷_, _++_}
 use lib.Dec.{eqb}
 use lib.IntN.{ℤ}
+use lib.ListN.{replicate}
 use Rattle.numbers.specs.Progress.{signed}
 use Rattle.rules.specs.declared.Opening.{Opening}
 use Rattle.rules.specs.declared.Answer.{Answer}
@@ -13,7 +14,7 @@ use Rattle.rules.specs.Limits.{maxTeams}
 use Rattle.rules.specs.Count.{unclaimed}
 use Rattle.steps.specs.declared.Stepped.{Stepped}
 use Rattle.steps.specs.declared.Team.{Team}
-use Rattle.steps.specs.Places.{scan}
+use Rattle.steps.specs.Records.{freshTeam}
 use Rattle.steps.specs.Step.{lentStep}
 use Rattle.steps.specs.Run.{Run, begun, stepTeam, runTeams, stoppedTeams}
 use Rattle.line_rules.specs.Line.{Line, openLine, batchLine, splitLine, leftLine}
@@ -38,15 +39,15 @@ noteOf team kind node a =
 abbrev pub stepLine : ℤ → Stepped → List Line
 stepLine team s = noteOf team (s .kind) (s .node) (s .answer)
 
--- ---- the run: a new ledger, a fresh record for each team there can be, and teams that scan
+-- ---- the run: a new ledger, and a fresh record for each team there can be
 
 abbrev pub runFrom : ℤ → Run → List ℤ → Run
-runFrom cap u schedule = runTeams (λ t. scan) cap u schedule
+runFrom cap u schedule = runTeams cap u schedule
 
 unfoldable pub notes : ℤ → Run → List ℤ → List Line
 notes cap u [] = []
 notes cap u (team ∷ later) =
-    stepLine team (lentStep scan (u .ledger) team cap (u .records)) ++ notes cap (stepTeam (λ t. scan) cap u team) later
+    stepLine team (lentStep (u .ledger) team cap (u .records)) ++ notes cap (stepTeam cap u team) later
 
 abbrev pub lastLine : Run → Line
 lastLine u = leftLine (signed (unclaimed (u .ledger))) (signed (stoppedTeams u))
@@ -55,7 +56,7 @@ abbrev pub runWith : Ledger → List Team → Run
 runWith l rs = record { ledger = l; records = rs }
 
 abbrev pub startOf : Opening → Run
-startOf o = begun o maxTeams
+startOf o = begun o (replicate maxTeams freshTeam)
 
 abbrev pub endOf : Opening → List ℤ → Run
 endOf o schedule = runFrom (o .cap) (startOf o) schedule

@@ -8,13 +8,13 @@ use borrow.Author.Tests.{ne-eqb}
 use Rattle.rules.specs.declared.Answer.{Answer}
 use Rattle.steps.specs.declared.Place.{Place}
 use Rattle.steps.specs.declared.Team.{Team}
-use Rattle.steps.specs.Places.{lineAt, scan}
+use Rattle.steps.specs.Places.{lineFrom}
 use Rattle.steps.specs.Turn.{moves}
 
 -- the moves from the place that a record is found at
 pub from-place : (number cap : ℕ) (r : Team) (a : Answer) (p : Place) → r .place ≡ p
-    → lineAt scan p .moves number cap r a ≡ moves scan number cap r a
-from-place number cap r a p e = sym (ap (λ (q : Place). lineAt scan q .moves number cap r a) e)
+    → lineFrom p r .moves number cap r a ≡ moves number cap r a
+from-place number cap r a p e = sym (ap (λ (q : Place). lineFrom q r .moves number cap r a) e)
 
 -- the codes that tell where the children are, and the others
 pub is-parted : {code : ℕ} → (code ≡ 0) ⊎ (code ≡ 16) → (eqb code 0 || eqb code 16) ≡ true

@@ -5,7 +5,7 @@ ghost use Prim.Native.Nat.{_≤_};
 ghost use lib.Dec.{eqb};
 ghost use Rattle.steps.specs.Records.{maxNode, claim, mark, isStopped};
 ghost use Rattle.steps.specs.Asks.{request};
-ghost use Rattle.steps.specs.Places.{scan, stealable, again, onward, takeChild, grownSize, sightMoves, seekMoves, takeMoves, workMoves, claimMoves, markMoves, splitMoves};
+ghost use Rattle.steps.specs.Places.{stealable, again, onward, takeChild, grownSize, sightMoves, seekMoves, takeMoves, workMoves, claimMoves, markMoves, splitMoves};
 ghost use Rattle.steps.specs.Turn.{asks, moves};
 ghost use Rattle.places.specs.Ready.{Limited, Small};
 
@@ -69,7 +69,7 @@ pub fn has_stopped(p: Place) -> bool
 
 // The request that a team makes at its place. One that has stopped makes none, which is a request of kind 0.
 pub fn asks_of(number: u32, t: Team) -> Request
-    ensures { λ q. ⌜ (Limited number t → q ≡ asks scan number t) ⌝ }
+    ensures { λ q. ⌜ (Limited number t → q ≡ asks number t) ⌝ }
 {
     let n = t.node;
     let place = t.place;
@@ -213,7 +213,7 @@ fn split_moves(t: Team, a: Answer) -> Team
 
 // Where an answer sends a team from its place.
 pub fn moves_of(number: u32, cap: u32, t: Team, a: Answer) -> Team
-    ensures { λ r. ⌜ (t .node ≤ maxNode → a .left ≤ maxNode → r ≡ moves scan number cap t a) ⌝ }
+    ensures { λ r. ⌜ (t .node ≤ maxNode → a .left ≤ maxNode → r ≡ moves number cap t a) ⌝ }
 {
     let place = t.place;
     match place {

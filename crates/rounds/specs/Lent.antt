@@ -12,7 +12,6 @@ use Rattle.rules.specs.WellFormed.{wellFormed}
 use Rattle.steps.specs.declared.Team.{Team}
 use Rattle.steps.specs.declared.Stepped.{Stepped}
 use Rattle.steps.specs.declared.Round.{Round}
-use Rattle.steps.specs.Places.{scan}
 use Rattle.steps.specs.Step.{slotOf, soloStep, roundOf, lentStep, recordsAfter}
 use Rattle.rounds.specs.declared.Apart.{Apart}
 use Rattle.rounds.specs.declared.Table.{Table}
@@ -34,15 +33,15 @@ abbrev pub apartOf : Stepped → Apart
 apartOf u = record { round = roundOf u; team = u .team }
 
 unfoldable pub apartStep : Ledger → ℤ → ℤ → Team → Apart
-apartStep l number cap r = apartOf (soloStep scan l number cap r)
+apartStep l number cap r = apartOf (soloStep l number cap r)
 
 -- ---- the whole step
 
 unfoldable pub lentRound : Ledger → ℤ → ℤ → List Team → Round
-lentRound l number cap rs = roundOf (lentStep scan l number cap rs)
+lentRound l number cap rs = roundOf (lentStep l number cap rs)
 
 unfoldable pub lentRecords : Ledger → ℤ → ℤ → List Team → List Team
-lentRecords l number cap rs = recordsAfter scan l number cap rs
+lentRecords l number cap rs = recordsAfter l number cap rs
 
 unfoldable pub tableStep : Ledger → ℤ → ℤ → List Team → Table
 tableStep l number cap rs = record { round = lentRound l number cap rs; records = lentRecords l number cap rs }

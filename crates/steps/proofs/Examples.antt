@@ -10,8 +10,9 @@ use Rattle.rules.specs.Requests.{owning, batchEnd, advancing, looking, granted,
 use Rattle.rules.specs.States.{stateOf, stolenOf}
 use Rattle.rules.specs.Table.{at, put, grown, sumBy, stolenIn}
 use Rattle.rules.specs.WellFormed.{upTo, aloneRule, childRule, nodeRule, leftIs, pairRule, unusedRule, wellFormed}
-use Rattle.steps.specs.Places.{scan, seekMoves, takeMoves, workMoves, claimMoves}
-use Rattle.steps.specs.Run.{begun, stepTeam, runTeams, stoppedTo, stoppedTeams}
+use Rattle.steps.specs.Records.{freshTeam}
+use Rattle.steps.specs.Places.{searchOf, seekMoves, takeMoves, workMoves, claimMoves}
+use Rattle.steps.specs.Run.{begun, stepTeam, runSteps, runTeams, stoppedTo, stoppedTeams}
 use Rattle.steps.specs.Step.{stepFrom, lentCode, stepUnless, lentStep, recordsAfter}
 
 -- one sheet, one team
@@ -22,10 +23,10 @@ small = record { start = pos 0; until = pos 1; teams = pos 1; cap = pos 1; nodes
 abbrev seven : List ℤ
 seven = pos 1 ∷ pos 1 ∷ pos 1 ∷ pos 1 ∷ pos 1 ∷ pos 1 ∷ pos 1 ∷ []
 
-ends : stoppedTeams (runTeams (λ t. scan) (pos 1) (begun small 1) seven) ≡ 1
-unfolding runTeams stepTeam lentStep recordsAfter lentCode stepUnless stepFrom requested answered changed view decided granted looking owning advancing batchEnd refusal kindCode ownCode advanceCode stateOf stolenOf at put grown sumBy stolenIn upTo aloneRule childRule nodeRule leftIs pairRule unusedRule wellFormed opens opened seekMoves takeMoves workMoves claimMoves stoppedTo
+ends : stoppedTeams (runTeams (pos 1) (begun small (freshTeam ∷ [])) seven) ≡ 1
+unfolding runSteps stepTeam lentStep recordsAfter lentCode stepUnless stepFrom searchOf requested answered changed view decided granted looking owning advancing batchEnd refusal kindCode ownCode advanceCode stateOf stolenOf at put grown sumBy stolenIn upTo aloneRule childRule nodeRule leftIs pairRule unusedRule wellFormed opens opened seekMoves takeMoves workMoves claimMoves stoppedTo
 ends = refl
 
-too-few : lentCode (begun small 0 .ledger) (pos 1) (pos 1) [] ≡ 18
+too-few : lentCode (begun small [] .ledger) (pos 1) (pos 1) [] ≡ 18
 unfolding lentCode stateOf stolenOf at sumBy stolenIn upTo aloneRule childRule nodeRule leftIs pairRule unusedRule wellFormed opens opened
 too-few = refl

@@ -27,7 +27,7 @@ use Rattle.steps.specs.declared.Side.the-variants.{Left, Right}
 use Rattle.steps.specs.declared.Team.{Team}
 use Rattle.steps.specs.Asks.{own, advance, mark, expand, look}
 use Rattle.steps.specs.Records.{sized, split, work, childOn}
-use Rattle.steps.specs.Places.{Line, again, grownSize, takeMoves, workMoves, claimMoves, splitMoves}
+use Rattle.steps.specs.Places.{again, grownSize, takeMoves, workMoves, claimMoves, splitMoves}
 use Rattle.rules.proofs.Tree.{InUse}
 use Rattle.steps.proofs.Stages.{Stage, hunt, taking, busy, parting, stageOf, child, Heads, works, parts, takes, Open, unmade, untaken, All, Moved, Duty, duty-same, duty-hunt, duty-taking, duty-busy, duty-parting}
 use Rattle.steps.proofs.Changes.{Older, all-keep, all-put, older-put, tended-shut, all-split, older-split}
@@ -58,13 +58,6 @@ leaf l w n u f = go (ℕ-discrete (at l n .left) 0)
     go : Dec (at l n .left ≡ 0) → at l n .left ≡ 0
     go (yes e) = e
     go (no ne) = let m = w .pair n (u .low) (u .high) (omega arith) .mark in never (cc)
-
--- what a search asks at a place, and what it owes for a mark
-pub data Hunts (line : Line) (t cap : ℕ) (r : Team) : Type 0 where
-  looks : (n : ℕ) → line .asks t r ≡ look t n → Hunts line t cap r
-  marks : (n : ℕ) (p : ℤ) → line .asks t r ≡ mark t n p
-      → ((a : Answer) → a .code ≡ 0 → stageOf (line .moves t cap r a) ≡ parting n Right)
-      → Hunts line t cap r
 
 module _ (l : Ledger) (w : WF l) (t : ℕ) (tl : 1 ≤ t) (th : t ≤ l .teams) where
   slot : (n : ℕ) → InUse l n → n ≤ length (l .nodes)
@@ -235,9 +228,12 @@ module _ (l : Ledger) (w : WF l) (t : ℕ) (tl : 1 ≤ t) (th : t ≤ l .teams) 
           fair-keep (parting n (r .side)) _ (λ m p q.
           duty-parting l t m _ n (r .side) (λ e o. heading c f (record { low = omega arith; high = omega arith }) o))
 
-  -- ---- search
+  -- ---- search: while it looks it owes nothing, and for a granted mark the right part
 
-  fair-mark : (n : ℕ) (p : ℤ) (next : Answer → Team) → ((a : Answer) → a .code ≡ 0 → stageOf (next a) ≡ parting n Right)
+  pub fair-seek : (n : ℕ) (next : Answer → Team) → Asks l t hunt (look t n) next
+  fair-seek n next = fair-look hunt n next (λ a saw m p q. duty-hunt l t m _)
+
+  pub fair-mark : (n : ℕ) (p : ℤ) (next : Answer → Team) → ((a : Answer) → a .code ≡ 0 → stageOf (next a) ≡ parting n Right)
       → Asks l t hunt (mark t n p) next
   fair-mark n p next owes = by-mark l w t n tl th p (Then l t hunt next) took (λ c ne told. fair-keep hunt _ (λ m a b. duty-hunt l t m _))
     where
@@ -264,7 +260,3 @@ module _ (l : Ledger) (w : WF l) (t : ℕ) (tl : 1 ≤ t) (th : t ≤ l .teams) 
                   right = λ o. record { team = t; low = tl; high = high-put; heads = rw same (parts (mv .here ∙ owes _ refl)) };
                 });
           }
-
-  pub fair-hunt : (line : Line) (cap : ℕ) (r : Team) → Hunts line t cap r → Asks l t hunt (line .asks t r) (line .moves t cap r)
-  fair-hunt line cap r (looks n e) = rw e (fair-look hunt n (line .moves t cap r) (λ a saw m p q. duty-hunt l t m _))
-  fair-hunt line cap r (marks n p e owes) = rw e (fair-mark n p (line .moves t cap r) owes)

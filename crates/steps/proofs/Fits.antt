@@ -25,12 +25,11 @@ use Rattle.steps.specs.declared.Side.the-variants.{Left, Right}
 use Rattle.steps.specs.declared.Team.{Team}
 use Rattle.steps.specs.Asks.{mark, expand, look}
 use Rattle.steps.specs.Records.{childOn, sized, take, work}
-use Rattle.steps.specs.Places.{Search, lineAt, scan, again, onward, mine, stealable, takeMoves, workMoves, claimMoves, splitMoves, seekMoves, markMoves}
+use Rattle.steps.specs.Places.{Search, scan, searchOf, again, onward, mine, stealable, takeMoves, workMoves, claimMoves, splitMoves, seekMoves, markMoves}
 use Rattle.steps.specs.Step.{stepFrom}
 use Rattle.rules.proofs.Tree.{InUse}
 use Rattle.steps.proofs.Asked.{Parent, Unsplit, by-mark, by-expand, by-look}
 use Rattle.steps.proofs.Fair.{is-child}
-use Rattle.steps.proofs.Seeks.{Searching, seeks, steals}
 
 -- what 19 asks of a record, and more of the node: at most one past those in use
 pub record Fit (cap used : ℕ) (r : Team) : Type 0 where
@@ -154,39 +153,37 @@ module _ (cap : ℕ) (l : Ledger) (w : WF l) (t : ℕ) (tl : 1 ≤ t) (th : t �
       next : n ≤ l .used → Fits (onward r)
       next h = to (n + 1) _ (omega arith) (omega arith) refl refl
 
--- ---- any program whose search stays within the limits
+-- ---- any program whose search stays within the limits, and with them every record
 
-pub record Roams (s : Search) (t : ℕ) : Type 0 where
-  pub fits : (p : Place)
-      → Searching p
-      → (cap : ℕ) (l : Ledger)
+pub record Roams (s : Search) (t : ℕ) (r : Team) : Type 0 where
+  pub seeks : (cap : ℕ) (l : Ledger)
       → WF l
       → 1 ≤ t
       → t ≤ l .teams
-      → (r : Team)
       → Fit cap (l .used) r
       → 1 ≤ cap
-      → Fit cap (l .used) (lineAt s p .moves t cap r (requested l (lineAt s p .asks t r) .answer))
+      → Fit cap (l .used) (s .seeking t r (requested l (look t (r .node)) .answer))
+  pub marks : (cap : ℕ) (l : Ledger)
+      → WF l
+      → 1 ≤ t
+      → t ≤ l .teams
+      → Fit cap (l .used) r
+      → 1 ≤ cap
+      → Fit cap (l .used) (s .marking r (requested l (mark t (r .node) (r .position)) .answer))
 
-pub scan-roams : (t : ℕ) → Roams scan t
-scan-roams t = record { fits = go }
-  where
-    go : (p : Place)
-        → Searching p
-        → (cap : ℕ) (l : Ledger)
-        → WF l
-        → 1 ≤ t
-        → t ≤ l .teams
-        → (r : Team)
-        → Fit cap (l .used) r
-        → 1 ≤ cap
-        → Fit cap (l .used) (lineAt scan p .moves t cap r (requested l (lineAt scan p .asks t r) .answer))
-    go Seek seeks cap l w tl th r f some = fit-seek cap l w t tl th r f some
-    go Mark steals cap l w tl th r f some = fit-mark cap l w t tl th r f some
+scan-roams : (t : ℕ) (r : Team) → Roams scan t r
+scan-roams t r =
+    record {
+      seeks = λ cap l w tl th f some. fit-seek cap l w t tl th r f some;
+      marks = λ cap l w tl th f some. fit-mark cap l w t tl th r f some;
+    }
 
-module _ (s : Search) (t : ℕ) (roams : Roams s t) (cap : ℕ) (some : 1 ≤ cap) (l : Ledger) (w : WF l) (tl : 1 ≤ t) (th : t ≤ l .teams)
-    (r : Team) (f : Fit cap (l .used) r) where
-  pub step-grows : (p : Place) → l .used ≤ stepFrom p s t cap l r .ledger .used
+roams : (t : ℕ) (r : Team) → Roams (searchOf r) t r
+unfolding searchOf
+roams t r = scan-roams t r
+
+module _ (t cap : ℕ) (some : 1 ≤ cap) (l : Ledger) (w : WF l) (tl : 1 ≤ t) (th : t ≤ l .teams) (r : Team) (f : Fit cap (l .used) r) where
+  pub step-grows : (p : Place) → l .used ≤ stepFrom p t cap l r .ledger .used
   unfolding stepFrom
   step-grows Seek = used-grows l _ w
   step-grows Take = used-grows l _ w
@@ -196,12 +193,12 @@ module _ (s : Search) (t : ℕ) (roams : Roams s t) (cap : ℕ) (some : 1 ≤ ca
   step-grows Split = used-grows l _ w
   step-grows Stopped = omega arith
 
-  pub step-fit : (p : Place) → Fit cap (stepFrom p s t cap l r .ledger .used) (stepFrom p s t cap l r .team)
+  pub step-fit : (p : Place) → Fit cap (stepFrom p t cap l r .ledger .used) (stepFrom p t cap l r .team)
   unfolding stepFrom
-  step-fit Seek = fit-more (used-grows l _ w) (roams .fits Seek seeks cap l w tl th r f some)
+  step-fit Seek = fit-more (used-grows l _ w) (roams t r .seeks cap l w tl th f some)
   step-fit Take = fit-more (used-grows l _ w) (fit-take cap l w t tl th r f some _)
   step-fit Work = fit-more (used-grows l _ w) (fit-work cap l w t tl th r f some)
   step-fit Claim = fit-more (used-grows l _ w) (fit-claim cap l w t tl th r f some _)
-  step-fit Mark = fit-more (used-grows l _ w) (roams .fits Mark steals cap l w tl th r f some)
+  step-fit Mark = fit-more (used-grows l _ w) (roams t r .marks cap l w tl th f some)
   step-fit Split = fit-split cap l w t tl th r f some
   step-fit Stopped = f

@@ -7,7 +7,6 @@ use Prim.Native.Nat.{ℕ, zero, suc, _+_, _-_, _%_, _≤_, _<_}
 use native.Mathlib.Omega.{arith}
 use native.Mathlib.Decide.{ℕ-discrete, decLe}
 use lib.Dec.{eqb}
-use lib.IntN.{ℤ}
 use borrow.Author.Tests.{eqb-true}
 use Rattle.rules.specs.declared.Node.{Node}
 use Rattle.rules.specs.declared.Ledger.{Ledger}
@@ -26,11 +25,10 @@ use Rattle.steps.specs.declared.Side.{Side}
 use Rattle.steps.specs.declared.Side.the-variants.{Left, Right}
 use Rattle.steps.specs.declared.Team.{Team}
 use Rattle.steps.specs.Records.{isStopped}
-use Rattle.steps.specs.Places.{Search}
-use Rattle.steps.specs.Run.{Run, stoppedTo, stoppedTeams}
+use Rattle.steps.specs.Run.{Run, stoppedTo, AllStopped}
 use Rattle.steps.specs.Demands.{NothingLeft}
-use Rattle.steps.proofs.Stages.{Stage, ended, stageOf, stageAt, child, Heads, works, parts, takes, Open, unmade, untaken, All}
-use Rattle.steps.proofs.Seeks.{Hopeful, will-take, searching, Seeks}
+use Rattle.steps.proofs.Stages.{Stage, hunt, taking, ended, stageOf, stageAt, child, Heads, works, parts, takes, Open, unmade, untaken, All}
+use Rattle.steps.proofs.Seeks.{Hopeful, will-take, searching}
 use Rattle.steps.proofs.Runs.{at-team, stages, Good, run-good, begun-good}
 
 -- ---- every record has stopped
@@ -138,22 +136,20 @@ module _ (l : Ledger) (w : WF l) (S : ℕ → Stage) (all : All l S) (rest : (t 
       go i (yes q) = rest-zero (i + 1) (omega arith) q
       go i (no q) = rw (w .blank (i + 1) (omega arith)) blank-zero
 
--- ---- the theorem, once for every choice of programs by team
+-- ---- the theorem
 
-module _ (program : ℕ → Search) (hopeful : ℕ → Team → Type 0) (sought : (t : ℕ) → Seeks (program t) t (hopeful t)) where
-  at-rest : (cap : ℤ) (u : Run) → Good program hopeful sought cap u → stoppedTeams u ≡ u .ledger .teams → unclaimed (u .ledger) ≡ 0
-  at-rest cap u g s = nothing-unclaimed (u .ledger) (g .wf) (stages (u .records)) (g .all) rest root
-    where
-      rest : (t : ℕ) → t ≤ u .ledger .teams → stages (u .records) t ≡ ended
-      rest t h = each-stopped (u .records) (u .ledger .teams) s t h
+at-rest : (u : Run) → Good u → AllStopped u → unclaimed (u .ledger) ≡ 0
+at-rest u g s = nothing-unclaimed (u .ledger) (g .wf) (stages (u .records)) (g .all) rest root
+  where
+    rest : (t : ℕ) → t ≤ u .ledger .teams → stages (u .records) t ≡ ended
+    rest t h = each-stopped (u .records) (u .ledger .teams) s t h
 
-      hopeless : Hopeful (hopeful 1) (at-team (u .records) 1) → stageOf (at-team (u .records) 1) ≡ ended → ⊥
-      hopeless (will-take a) e = never (cc)
-      hopeless (searching a h) e = never (cc)
+    hopeless : Hopeful (at-team (u .records) 1) → stageOf (at-team (u .records) 1) ≡ ended → ⊥
+    hopeless (will-take a n) e = let z : taking _ ≡ ended = rw a at e in never (cc)
+    hopeless (searching a h) e = let z : hunt ≡ ended = rw a at e in never (cc)
 
-      root : stateOf (at (u .ledger) 1) ≢ AVAILABLE
-      root e = hopeless (g .root e 1 (omega arith) (g .wf .teams-low)) (rest 1 (g .wf .teams-low))
+    root : stateOf (at (u .ledger) 1) ≢ AVAILABLE
+    root e = hopeless (g .root e 1 (omega arith) (g .wf .teams-low)) (rest 1 (g .wf .teams-low))
 
-  pub nothing-left : NothingLeft program
-  nothing-left o cap count schedule ok enough s =
-      at-rest cap _ (run-good program hopeful sought cap schedule _ (begun-good program hopeful sought cap o count ok enough)) s
+pub nothing-left : NothingLeft
+nothing-left o rs steps ok fresh s = at-rest _ (run-good steps _ (begun-good o rs ok fresh)) s

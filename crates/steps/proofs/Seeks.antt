@@ -1,68 +1,52 @@
--- What a search must do for the theorem; and that program 1, the scan by number, does it.
+-- What the search of a record must do for the theorem: after a granted mark it heads for the right part, and while nobody has the root it
+-- comes to take it. Each program is shown to do it, and with them every record.
 use mathlib.Core.Path.{_≡_, refl, ap, _∙_}
 use Prim.Native.Nat.{ℕ, _≤_}
 use native.Mathlib.Omega.{arith}
 use Rattle.rules.specs.declared.Ledger.{Ledger}
+use Rattle.rules.specs.declared.Answer.{Answer}
 use Rattle.rules.specs.declared.Answered.{Answered}
 use Rattle.rules.specs.States.{AVAILABLE, stateOf}
 use Rattle.rules.specs.Table.{at}
 use Rattle.rules.specs.Requests.{requested}
 use Rattle.rules.proofs.Record.{WF}
-use Rattle.rules.proofs.States.{never}
-use Rattle.steps.specs.declared.Place.{Place}
-use Rattle.steps.specs.declared.Place.the-variants.{Seek, Mark}
+use Rattle.steps.specs.declared.Place.the-variants.{Seek, Take}
+use Rattle.steps.specs.declared.Side.the-variants.{Right}
 use Rattle.steps.specs.declared.Team.{Team}
-use Rattle.steps.specs.Asks as asks
+use Rattle.steps.specs.Asks.{look}
 use Rattle.steps.specs.Records.{freshTeam}
-use Rattle.steps.specs.Places.{Search, lineAt, scan, seekMoves, markMoves}
-use Rattle.steps.proofs.Stages.{hunt, taking, stageOf}
+use Rattle.steps.specs.Places.{Search, scan, searchOf, seekMoves, markMoves}
+use Rattle.steps.proofs.Stages.{parting, stageOf}
 use Rattle.steps.proofs.Asked.{by-look}
-use Rattle.steps.proofs.Fair.{Hunts, looks, marks}
 
--- the two places of a search
-pub data Searching : Place → Type 0 where
-  seeks : Searching Seek
-  steals : Searching Mark
+-- a search that meets these is on the way to the root: under way from a fresh record, it stays so until it has come to take it
+abbrev pub Hope : Team → Type 0
+Hope r = r .node ≡ 1
 
 -- while the root is AVAILABLE a team will take it, or its search is on the way to that
-pub data Hopeful (hopeful : Team → Type 0) (r : Team) : Type 0 where
-  will-take : stageOf r ≡ taking 1 → Hopeful hopeful r
-  searching : stageOf r ≡ hunt → hopeful r → Hopeful hopeful r
+pub data Hopeful (r : Team) : Type 0 where
+  will-take : r .place ≡ Take → r .node ≡ 1 → Hopeful r
+  searching : r .place ≡ Seek → Hope r → Hopeful r
 
--- a search makes looks and marks alone, and after a granted mark heads for the right part; while nobody has the root,
--- and there is no other node, it comes to take it
-pub record Seeks (s : Search) (t : ℕ) (hopeful : Team → Type 0) : Type 0 where
-  pub hunts : (p : Place) → Searching p → (cap : ℕ) (r : Team) → Hunts (lineAt s p) t cap r
-  pub begins : hopeful freshTeam
-  pub hopes : (p : Place)
-      → Searching p
-      → (cap : ℕ) (l : Ledger)
+pub record Seeks (s : Search) (t : ℕ) (r : Team) : Type 0 where
+  pub parts : (a : Answer) → a .code ≡ 0 → stageOf (s .marking r a) ≡ parting (r .node) Right
+  pub hopes : (l : Ledger)
       → WF l
       → 1 ≤ t
       → t ≤ l .teams
       → stateOf (at l 1) ≡ AVAILABLE
       → l .used ≡ 1
-      → (r : Team)
-      → r .place ≡ p
-      → hopeful r
-      → Hopeful hopeful (lineAt s p .moves t cap r (requested l (lineAt s p .asks t r) .answer))
+      → Hope r
+      → Hopeful (s .seeking t r (requested l (look t (r .node)) .answer))
 
 -- ---- program 1
 
-abbrev pub AtRoot : Team → Type 0
-AtRoot r = (r .place ≡ Seek) × (r .node ≡ 1)
-
-module _ (t : ℕ) where
-  scan-hunts : (p : Place) → Searching p → (cap : ℕ) (r : Team) → Hunts (lineAt scan p) t cap r
-  unfolding markMoves
-  scan-hunts Seek seeks cap r = looks (r .node) refl
-  scan-hunts Mark steals cap r = marks (r .node) (r .position) refl (λ a c. rw c)
-
+module _ (t : ℕ) (r : Team) where
   -- a look at the root finds it AVAILABLE
-  root-seen : (l : Ledger) → WF l → 1 ≤ t → t ≤ l .teams → stateOf (at l 1) ≡ AVAILABLE → (r : Team) (n : ℕ) → r .node ≡ n → n ≡ 1
-      → Hopeful AtRoot (seekMoves t r (requested l (asks.look t n) .answer))
+  scan-hopes : (l : Ledger) → WF l → 1 ≤ t → t ≤ l .teams → stateOf (at l 1) ≡ AVAILABLE → (n : ℕ) → r .node ≡ n → n ≡ 1
+      → Hopeful (seekMoves t r (requested l (look t n) .answer))
   unfolding seekMoves
-  root-seen l w tl th free r n is one =
+  scan-hopes l w tl th free n is one =
       by-look
       l
       w
@@ -70,24 +54,20 @@ module _ (t : ℕ) where
       n
       tl
       th
-      (λ (u : Answered). Hopeful AtRoot (seekMoves t r (u .answer)))
-      (λ u. rw (one, free) (will-take (ap taking (is ∙ one))))
+      (λ (u : Answered). Hopeful (seekMoves t r (u .answer)))
+      (λ u. rw (one, free) (will-take refl (is ∙ one)))
       (λ none. absurd (none (record { low = omega arith; high = omega (arith, w .odd) })))
 
-  scan-hopes : (p : Place)
-      → Searching p
-      → (cap : ℕ) (l : Ledger)
-      → WF l
-      → 1 ≤ t
-      → t ≤ l .teams
-      → stateOf (at l 1) ≡ AVAILABLE
-      → l .used ≡ 1
-      → (r : Team)
-      → r .place ≡ p
-      → AtRoot r
-      → Hopeful AtRoot (lineAt scan p .moves t cap r (requested l (lineAt scan p .asks t r) .answer))
-  scan-hopes Seek seeks cap l w tl th free only r e h = root-seen l w tl th free r (r .node) refl (h .1)
-  scan-hopes Mark steals cap l w tl th free only r e h = let z = h .0 in never (cc)
+  scan-seeks : Seeks scan t r
+  unfolding markMoves
+  scan-seeks =
+      record { parts = λ a c. rw c; hopes = λ l w tl th free only h. scan-hopes l w tl th free (r .node) refl h }
 
-  pub scan-seeks : Seeks scan t AtRoot
-  scan-seeks = record { hunts = scan-hunts; begins = (refl, refl); hopes = scan-hopes }
+-- ---- every record
+
+pub sought : (t : ℕ) (r : Team) → Seeks (searchOf r) t r
+unfolding searchOf
+sought t r = scan-seeks t r
+
+pub begins : Hope freshTeam
+begins = refl

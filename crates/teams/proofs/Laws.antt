@@ -26,7 +26,6 @@ use Rattle.rules.proofs.Record.{WF, rules}
 use Rattle.rules.proofs.Tests.{passed}
 use Rattle.ledger.proofs.Laws.{until-small}
 use Rattle.steps.specs.declared.Team.{Team}
-use Rattle.steps.specs.Places.{scan}
 use Rattle.steps.specs.Records.{maxNode, isStopped}
 use Rattle.steps.specs.Step.{resting, stepFrom, stepAt, unfit, soloTests, soloCode}
 use Rattle.steps.specs.Turn.{asks, moves, still, turned}
@@ -99,34 +98,34 @@ module _ (l : Ledger) (slots : length (l .nodes) ≡ 1023) (formed : wellFormed 
 -- ---- a step's parts put together
 
 module _ (number cap : ℕ) (l : Ledger) (r : Team) where
-  pub step-rests : isStopped (r .place) ≡ true → stepAt scan number cap l r ≡ resting l r
+  pub step-rests : isStopped (r .place) ≡ true → stepAt number cap l r ≡ resting l r
   unfolding stepFrom
   step-rests e = rw e
 
   pub step-made : {q : Request} {d : Answered} {m : Team} {kind node : ℕ}
       → isStopped (r .place) ≡ false
-      → q ≡ asks scan number r
+      → q ≡ asks number r
       → d ≡ requested l q
-      → m ≡ moves scan number cap r (d .answer)
+      → m ≡ moves number cap r (d .answer)
       → kind ≡ natOf (q .kind)
       → node ≡ natOf (q .node)
-      → record { ledger = d .ledger; team = m; kind = kind; node = node; answer = d .answer } ≡ stepAt scan number cap l r
+      → record { ledger = d .ledger; team = m; kind = kind; node = node; answer = d .answer } ≡ stepAt number cap l r
   unfolding stepFrom
   step-made going asked done moved k n = rw (going, moved, k, n, done, asked)
 
 module _ (number cap : ℕ) (r : Team) (v : View) where
-  pub turn-rests : isStopped (r .place) ≡ true → turned scan number cap r v ≡ still r
+  pub turn-rests : isStopped (r .place) ≡ true → turned number cap r v ≡ still r
   unfolding turned
   turn-rests e = rw e
 
   pub turn-made : {q : Request} {o : Outcome} {m : Team} {kind node : ℕ}
       → isStopped (r .place) ≡ false
-      → q ≡ asks scan number r
+      → q ≡ asks number r
       → o ≡ decided v q
-      → m ≡ moves scan number cap r (o .answer)
+      → m ≡ moves number cap r (o .answer)
       → kind ≡ natOf (q .kind)
       → node ≡ natOf (q .node)
-      → record { team = m; kind = kind; node = node; answer = o .answer; change = o .change } ≡ turned scan number cap r v
+      → record { team = m; kind = kind; node = node; answer = o .answer; change = o .change } ≡ turned number cap r v
   unfolding turned
   turn-made going asked done moved k n = rw (going, moved, k, n, done, asked)
 

@@ -1,3 +1,2 @@
 -- What the code of a step needs of the definitions.
 pub mod Laws
-pub mod InRuns

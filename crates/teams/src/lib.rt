@@ -2,7 +2,6 @@
 ghost use mathlib.Core.Path.{_≡_};
 ghost use mathlib.Core.Bool.{true};
 ghost use Rattle.rules.specs.WellFormed.{wellFormed};
-ghost use Rattle.steps.specs.Places.{scan};
 ghost use Rattle.steps.specs.Step.{unfit, soloCode, unmoved, stepAt, soloStep};
 ghost use Rattle.steps.specs.Turn.{still, turned};
 ghost use Rattle.places.specs.Ready.{Limited, Ready};
@@ -47,7 +46,7 @@ fn unmoved_by(code: u32, l: Ledger, t: Team) -> Stepped
 }
 
 fn step_at(number: u32, cap: u32, l: Ledger, t: Team) -> Stepped
-    ensures { λ r. ⌜ (wellFormed l ≡ true → Limited number t → r ≡ stepAt scan number cap l t) ⌝ }
+    ensures { λ r. ⌜ (wellFormed l ≡ true → Limited number t → r ≡ stepAt number cap l t) ⌝ }
 {
     let place = t.place;
     if places::has_stopped(place) {
@@ -72,7 +71,7 @@ fn step_at(number: u32, cap: u32, l: Ledger, t: Team) -> Stepped
 // A step of the team with this number and this record, in a run with this cap. It is refused by 1, 3 and 19, in this order; with one
 // record by value none can be too few.
 pub fn step(l: Ledger, number: i32, cap: i32, team: Team) -> Stepped
-    ensures { λ r. ⌜ r ≡ soloStep scan l number cap team ⌝ }
+    ensures { λ r. ⌜ r ≡ soloStep l number cap team ⌝ }
 {
     let code = code_of(l, number, cap, team);
     if code != 0 {
@@ -99,7 +98,7 @@ fn still_turn(t: Team) -> Turned
 // The step without its ledger, by the one node that its request names: for a run that holds the ledger itself, and knows that it is well
 // formed and the record within its limits. It is no public call.
 pub fn turn(number: u32, cap: u32, t: Team, v: View) -> Turned
-    ensures { λ r. ⌜ (Ready number t v → r ≡ turned scan number cap t v) ⌝ }
+    ensures { λ r. ⌜ (Ready number t v → r ≡ turned number cap t v) ⌝ }
 {
     let place = t.place;
     if places::has_stopped(place) {

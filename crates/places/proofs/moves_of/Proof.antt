@@ -2,11 +2,13 @@
 use borrow.Author.Needs.{needs}
 use mathlib.Core.Path.{_∙_}
 use Rattle.steps.specs.declared.Place.the-variants.{Seek, Take, Work, Claim, Mark, Split, Stopped}
+use Rattle.steps.specs.Places.{searchOf}
 use Rattle.places.proofs.Laws.{from-place}
 use Rattle.places.proofs.moves_of.Statement.{statement}
 use Rattle.places.proofs.moves_of.Tie as tie
 
 pub moves-of-spec : {M : Type 1} → statement M
+unfolding searchOf
 moves-of-spec = tie.close (tie.spec
     (λ c. search needs)
     (λ c κs. tt)

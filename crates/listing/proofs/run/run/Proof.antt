@@ -15,7 +15,7 @@ use Rattle.rules.specs.declared.Node.{Node}
 use Rattle.rules.specs.Table.{stolenIn, at as nodeAt}
 use Rattle.steps.specs.Step.{slotOf, recordOf}
 use Rattle.rules.proofs.Record.{rules-back}
-use Rattle.steps.specs.Run.{Run, runTeams}
+use Rattle.steps.specs.Run.{Run, runSteps}
 use Rattle.listing_rules.specs.Steps.{runWith, runFrom, notes}
 use Rattle.listing_rules.specs.Paper.{paper, printedAll}
 use Rattle.listing_rules.proofs.Runs.{Begun, Here, here}
@@ -204,7 +204,7 @@ fresh-teams-requires : tie.Need-fresh-teams-requires Inv-loop μ-loop
 fresh-teams-requires c κs = search needs
 
 loop-holds : tie.Need-loop-holds Inv-loop μ-loop
-unfolding runTeams notes printedAll
+unfolding runSteps notes printedAll
 loop-holds c = (omega arith, refl, started c .pre .1, none-stolen (started c .args .o) (capped c) (c .before .before .«open» .result .ledger) (c .fresh-teams .result) (begins c), refl, refl)
 
 mul-number : tie.Need-mul-number Inv-loop μ-loop
