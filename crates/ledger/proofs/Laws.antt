@@ -13,11 +13,11 @@ use Rattle.rules.specs.declared.Opening.{Opening}
 use Rattle.rules.specs.Limits.{opens}
 use Rattle.rules.proofs.Facts.{both}
 use Rattle.rules.proofs.Opens.{opens-facts}
-use Rattle.rules.proofs.Record.{WF, rules}
+use Rattle.rules.proofs.Record.{WF, rules, root-used}
 use Rattle.rules.proofs.Range.{within-range}
 use Rattle.rules.specs.Nodes.{blank, fresh}
 use Rattle.rules.specs.Opening.{opened, ledgerOf}
-use Rattle.rules.specs.Table.{at}
+use Rattle.rules.specs.Table.{InUse, at}
 use Rattle.rules.specs.WellFormed.{numbersRule, wellFormed}
 
 -- an opening within its limits starts within them
@@ -35,18 +35,18 @@ until-small l slots e n = go (decLe n (l .used)) (decLe 1 n)
     w : WF l
     w = rules l slots e
 
-    of-slot : (k : ℕ) → 1 ≤ k → k ≤ l .used → at l k .until ≤ 2147483647
-    of-slot k p q = omega (arith, within-range l w k p q .high, w .until-limit)
+    of-slot : (k : ℕ) → InUse l k → at l k .until ≤ 2147483647
+    of-slot k u = omega (arith, within-range l w k u .high, w .limits .until-limit)
 
     zeroth : at l 0 ≡ at l 1
     zeroth = unfold at in refl
 
     go : Dec (n ≤ l .used) → Dec (1 ≤ n) → at l n .until ≤ 2147483647
     go (no h) d = rw (w .blank n (omega arith)) (omega arith)
-    go (yes h) (yes k) = of-slot n k h
+    go (yes h) (yes k) = of-slot n (record { low = k; high = h })
     go (yes h) (no k) =
         let z : n ≡ 0 = omega arith in
-        rw (z, zeroth) (of-slot 1 (omega arith) (omega (arith, w .odd)))
+        rw (z, zeroth) (of-slot 1 (root-used l w))
 
 -- a table of unused slots, with its first stored
 first-stored : (n k : ℕ) (x b : Node) → n ≡ suc k → set (replicate n b) 0 x ≡ x ∷ replicate k b

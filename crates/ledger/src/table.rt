@@ -1,6 +1,6 @@
 // The table of nodes: reading and storing one, the unclaimed count, and a ledger after a change.
 ghost use mathlib.Core.Path.{_≡_};
-ghost use Prim.Native.Nat.{_+_, _≤_};
+ghost use Prim.Native.Nat.{_+_, _≤_, max};
 ghost use Rattle.rules.specs.Table.{at, put, grown};
 ghost use Rattle.rules.specs.Requests.{view, changed};
 ghost use Rattle.rules.specs.Count.{unclaimed};
@@ -33,12 +33,18 @@ fn with_node(l: Ledger, n: u32, x: Node) -> Ledger
     m
 }
 
-fn with_pair_used(l: Ledger) -> Ledger
-    requires { ⌜ l .used ≤ 1023 ⌝ }
-    ensures { λ m. ⌜ m ≡ grown l ⌝ }
+fn larger(a: u32, b: u32) -> u32
+    ensures { λ r. ⌜ r ≡ max a b ⌝ }
+{
+    if a < b { b } else { a }
+}
+
+fn with_pair_used(l: Ledger, pair: u32) -> Ledger
+    requires { ⌜ IsSlot pair ⌝ }
+    ensures { λ m. ⌜ m ≡ grown l pair ⌝ }
 {
     let mut m = l;
-    m.used = l.used + 2;
+    m.used = larger(l.used, pair + 1);
     m
 }
 
@@ -72,17 +78,17 @@ pub(crate) fn view_of(l: Ledger, n: u32) -> View
 }
 
 fn split_at(l: Ledger, n: u32, x: Node, pair: u32, a: Node, b: Node) -> Ledger
-    requires { ⌜ (l .used ≤ 1023) × (IsSlot n × IsSlot pair × IsSlot (pair + 1)) ⌝ }
-    ensures { λ m. ⌜ m ≡ grown (put (put (put l n x) pair a) (pair + 1) b) ⌝ }
+    requires { ⌜ IsSlot n × IsSlot pair × IsSlot (pair + 1) ⌝ }
+    ensures { λ m. ⌜ m ≡ grown (put (put (put l n x) pair a) (pair + 1) b) pair ⌝ }
 {
     let one = with_node(l, n, x);
     let two = with_node(one, pair, a);
     let three = with_node(two, pair + 1, b);
-    with_pair_used(three)
+    with_pair_used(three, pair)
 }
 
 pub(crate) fn changed_by(l: Ledger, n: u32, c: Change) -> Ledger
-    requires { ⌜ (l .used ≤ 1023) × Stores n c ⌝ }
+    requires { ⌜ Stores n c ⌝ }
     ensures { λ m. ⌜ m ≡ changed l n c ⌝ }
 {
     match c {

@@ -2,7 +2,7 @@
 use mathlib.Core.Path.{_≡_, refl, sym, ap, _∙_}
 use mathlib.Core.Bool.{Bool, true, false, cond}
 use mathlib.Core.List.{List, [], _∷_, _++_, append-assoc, append-nil}
-use Prim.Native.Nat.{ℕ, _+_, _-_, _≤_, _<_}
+use Prim.Native.Nat.{ℕ, _+_, _-_, _≤_, _<_, max}
 use native.Mathlib.Omega.{arith}
 use native.Mathlib.Decide.{decLe}
 use lib.IntN.{ℤ, pos}
@@ -23,18 +23,18 @@ use Rattle.rules.specs.Limits.{opens, maxCap, maxTeams, maxNodes}
 use Rattle.rules.specs.Nodes.{blank, parted, leftPart, rightPart}
 use Rattle.rules.specs.States.{stolenOf}
 use Rattle.rules.specs.Requests.{view, changed}
-use Rattle.rules.specs.Table.{at, put, grown, stolenIn}
+use Rattle.rules.specs.Table.{InUse, at, put, nextPair, grown, stolenIn}
 use Rattle.rules.proofs.Changed.{Changes, keeps, stores, splits, changes}
-use Rattle.rules.proofs.Expand.{room-left, load-next}
+use Rattle.rules.proofs.Expand.{load-next}
 use Rattle.rules.specs.Opening.{opening, ledgerOf}
 use Rattle.rules.proofs.Opens.{opens-facts, opened-wf, opened-root}
 use Rattle.rules.proofs.Nodes.{at-out, at-next}
 use Rattle.rules.proofs.Sums.{sumBy-zero}
 use Rattle.rules.proofs.Range.{within-range}
-use Rattle.rules.proofs.Record.{WF}
+use Rattle.rules.proofs.Record.{WF, used-high, in-table}
+use Rattle.rules.proofs.Spare.{spare, pair-room}
 use Rattle.rules.proofs.States.{never, Stolen, stolen-one, parent-none, fresh-none, blank-none}
 use Rattle.rules.proofs.Store.{stolen-put}
-use Rattle.rules.proofs.Tree.{InUse}
 use Rattle.steps.specs.declared.Team.{Team}
 use Rattle.steps.specs.declared.Turned.{Turned}
 use Rattle.steps.specs.Records.{freshTeam, noTeam, isStopped}
@@ -63,7 +63,7 @@ node-is l n slots = go (decLe n maxNodes)
 
 pub view-is : (l : Ledger) (n stolen : ℕ) (x : Node) → stolen ≡ stolenIn l → x ≡ at l n
     → viewBy (l .teams) (l .room) (l .used) stolen x ≡ view l n
-unfolding view
+unfolding view nextPair
 view-is l n stolen x e f = rw (e, f)
 
 -- the limits that a step's code counts on
@@ -75,24 +75,27 @@ module _ (l : Ledger) (w : WF l) (number : ℕ) (r : Team) (cap : ℕ) (fit : Fi
       record {
         limited =
             record {
-              number-high = omega (arith, w .teams-high);
-              node-high = omega (arith, fit .high, w .used-room, w .room-high);
+              number-high = omega (arith, w .limits .teams-high);
+              node-high = omega (arith, fit .high, used-high l w);
               size-high = omega (arith, fit .most);
             };
         until-high = ends .0;
         left-high = ends .1;
-        pair-high = omega (arith, w .used-room, w .room-high);
+        pair-high = omega (arith, spare l w .next, used-high l w);
       }
     where
       x : Node
       x = at l (r .node)
 
+      used : r .node ≤ l .used → InUse l (r .node)
+      used h = record { low = fit .low; high = h }
+
       child : r .node ≤ l .used → Dec (0 < x .left) → x .left ≤ 1024
-      child h (yes k) = omega (arith, w .pair (r .node) (fit .low) h k .inside, w .used-room, w .room-high)
+      child h (yes k) = omega (arith, w .pair (r .node) (used h) k .inside, used-high l w)
       child h (no k) = omega arith
 
       go : Dec (r .node ≤ l .used) → (x .until ≤ 2147483647) × (x .left ≤ 1024)
-      go (yes h) = (omega (arith, within-range l w (r .node) (fit .low) h .high, w .until-limit), child h (decLe 1 (x .left)))
+      go (yes h) = (omega (arith, within-range l w (r .node) (used h) .high, w .limits .until-limit), child h (decLe 1 (x .left)))
       go (no h) = rw (w .blank (r .node) (omega arith)) (omega arith, omega arith)
 
 -- ---- a turn of a team
@@ -150,40 +153,43 @@ pub record Stored (l : Ledger) (n : ℕ) (x : Node) (next : Ledger) : Type 0 whe
   pub count : stolenIn l + stolenOf x - stolenOf (at l n) ≡ stolenIn next
 
 pub record Parted (l : Ledger) (n : ℕ) (x : Node) (pair : ℕ) (a b : Node) (next : Ledger) : Type 0 where
-  pub pair-is : pair ≡ l .used + 1
-  pub room : l .used + 2 ≤ maxNodes
+  pub some : 1 ≤ pair
+  pub room : pair + 1 ≤ maxNodes
   pub is : with-nodes l (pair + 1) (set (set (set (l .nodes) (slotFor n) x) (pair - 1) a) (pair - 1 + 1) b) ≡ next
   pub count : stolenIn l + stolenOf x - stolenOf (at l n) ≡ stolenIn next
 
 module _ (l : Ledger) (w : WF l) (n : ℕ) where
-  slot-is : n ≤ l .used → slotFor n ≡ n - 1
-  slot-is h = omega (arith, w .used-room, w .room-high)
+  slot-is : InUse l n → slotFor n ≡ n - 1
+  slot-is u = omega (arith, u .high, used-high l w)
 
   stored-in : (x : Node) → InUse l n → Stored l n x (changed l n (Store x))
   unfolding changed
   stored-in x u =
       record {
-        is = rw (slot-is (u .high)) (unfold put in refl);
-        count = omega (arith, stolen-put l n x (u .low) (omega (arith, u .high, w .slots, w .used-room, w .room-high)));
+        is = rw (slot-is u) (unfold put in refl);
+        count = omega (arith, stolen-put l n x (u .low) (in-table l w n u));
       }
 
   abbrev x : Node
   x = at l n
 
-  abbrev y : Node
-  y = parted x (l .used + 1)
+  abbrev c : ℕ
+  c = nextPair l
 
-  parted-in : InUse l n → Stolen x
-      → Parted l n y (l .used + 1) (leftPart x) (rightPart x) (changed l n (Split y (l .used + 1) (leftPart x) (rightPart x)))
+  abbrev y : Node
+  y = parted x c
+
+  parted-in : InUse l n → Stolen x → Parted l n y c (leftPart x) (rightPart x) (changed l n (Split y c (leftPart x) (rightPart x)))
   unfolding changed
   parted-in u s =
-      let a : l .used + 1 + 1 ≡ l .used + 2 = omega arith in
-      let c : l .used + 1 - 1 + 1 ≡ l .used + 1 + 1 - 1 = omega arith in
+      let some : 1 ≤ c = omega (arith, spare l w .past) in
+      let next : c - 1 + 1 ≡ c + 1 - 1 = omega arith in
+      let used : c + 1 ≡ max (l .used) (c + 1) = omega (arith, spare l w .past) in
       record {
-        pair-is = refl;
-        room = omega (arith, room-left l w n (u .low) (u .high) s, w .room-high);
-        is = rw (slot-is (u .high), c, a) (unfold grown put in refl);
-        count = omega (arith, load-next l w n (u .low) (u .high) s, stolen-one x s, parent-none y (omega arith));
+        some = some;
+        room = omega (arith, pair-room l w n u s, w .limits .room-high);
+        is = rw (slot-is u, next) (ap (λ (k : ℕ). with-nodes l k _) used ∙ unfold grown put in refl);
+        count = omega (arith, load-next l w n u s, stolen-one x s, parent-none y some, spare l w .next, spare l w .past);
       }
 
   -- by the arms of the code's match
@@ -201,7 +207,7 @@ module _ (l : Ledger) (w : WF l) (n : ℕ) where
   split-up (stores u) z pair a b e = never (cc)
   split-up (splits u s) z pair a b e =
       let ez : z ≡ y = cc in
-      let ep : pair ≡ l .used + 1 = cc in
+      let ep : pair ≡ c = cc in
       let ea : a ≡ leftPart x = cc in
       let eb : b ≡ rightPart x = cc in
       rw (ez, ep, ea, eb) (parted-in u s)
@@ -241,7 +247,7 @@ pub record Arms (cap : ℕ) (u : Run) (s : List ℤ) (l : Ledger) (rs : List Tea
       → k ≡ stolen + stolenOf y - stolenOf x
       → (k ≡ stolenIn (with-nodes l (l .used) (set (l .nodes) place y)))
       × (runWith (with-nodes l (l .used) (set (l .nodes) place y)) (set rs slot (t .team)) ≡ runFrom (pos cap) u s)
-  pub pair : (y : Node) (pair : ℕ) (a b : Node) → t .change ≡ Split y pair a b → (pair ≡ l .used + 1) × (l .used + 2 ≤ maxNodes)
+  pub pair : (y : Node) (pair : ℕ) (a b : Node) → t .change ≡ Split y pair a b → (1 ≤ pair) × (pair + 1 ≤ maxNodes)
   pub split : (y : Node) (pair : ℕ) (a b : Node) (k : ℕ)
       → t .change ≡ Split y pair a b
       → k ≡ stolen + stolenOf y - stolenOf x
@@ -264,7 +270,7 @@ module _ {o : Opening} {cap : ℕ} {u : Run} (b : Begun o cap u) (s : List ℤ) 
   seat-inside =
       let h = within-true number 1 (natOf (o .teams)) mine in
       let w = stand .wf in
-      omega (arith, h .low, h .high, stand .teams-are, w .teams-high)
+      omega (arith, h .low, h .high, stand .teams-are, w .limits .teams-high)
 
   pub next-run : runWith (changed l (recordOf rs number .node) (taken .change)) (set rs (slotOf number) (taken .team)) ≡ runFrom (pos cap) u (take (i + 1) s)
   next-run = rw (run-more (pos cap) u s i less, ← inv) (sym (step-is cap l (stand .wf) rs number (stand .passes number mine)))
@@ -310,7 +316,7 @@ module _ {o : Opening} {cap : ℕ} {u : Run} (b : Begun o cap u) (s : List ℤ) 
       record {
         keep = λ e. ap (λ (k : Ledger). runWith k (set rs slot (t .team))) (kept l (stand .wf) m e) ∙ stepped;
         store = λ y k e ek. let f = stored l (stand .wf) m by-turn y e in by-count k y _ (rw (ep, es) (f .is)) (f .count) ek;
-        pair = λ y pair a b e. let f = split-up l (stand .wf) m by-turn y pair a b e in (f .pair-is, f .room);
+        pair = λ y pair a b e. let f = split-up l (stand .wf) m by-turn y pair a b e in (f .some, f .room);
         split = λ y pair a b k e ek. let f = split-up l (stand .wf) m by-turn y pair a b e in by-count k y _ (rw (ep, es) (f .is)) (f .count) ek;
       }
     where

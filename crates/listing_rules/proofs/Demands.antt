@@ -128,7 +128,7 @@ module _ (room : ℕ) (bytes : List ℕ) (good : IsGranted room bytes) where
       here {u = startOf o} (record { ok = ok; cap-is = refl; start-is = refl }) s (endOf o s .ledger) (endOf o s .records) (rw cap-is)
 
   few-stopped : stoppedTeams (endOf o s) ≤ 32
-  few-stopped = omega (arith, stopped-few (endOf o s .records) (endOf o s .ledger .teams), end-here .wf .teams-high)
+  few-stopped = omega (arith, stopped-few (endOf o s .records) (endOf o s .ledger .teams), end-here .wf .limits .teams-high)
 
   last-sane : Sane (lastLine (endOf o s))
   unfolding anyNegative

@@ -20,13 +20,13 @@ use Rattle.rules.specs.Limits.{opens}
 use Rattle.rules.specs.Listing.{Batch, isClaim, batchOf, batches, afterAll}
 use Rattle.rules.specs.Nodes.{positionOf, middle}
 use Rattle.rules.specs.Requests.{nodeIn, batchEnd, requested, refused}
-use Rattle.rules.specs.Table.{at}
-use Rattle.rules.proofs.Expand.{room-left}
-use Rattle.rules.proofs.Granted.{Asked, Answers, refuses, owns, advances, marks, expands, looks, answers}
+use Rattle.rules.specs.Table.{nextPair, at}
+use Rattle.rules.proofs.Spare.{pair-room}
+use Rattle.rules.proofs.Granted.{Asked, in-use, Answers, refuses, owns, advances, marks, expands, looks, answers}
 use Rattle.rules.proofs.Keeps.{requested-wf}
 use Rattle.rules.proofs.Once.{after-append}
 use Rattle.rules.proofs.Range.{within-range}
-use Rattle.rules.proofs.Record.{WF}
+use Rattle.rules.proofs.Record.{WF, used-high}
 use Rattle.steps.specs.declared.Team.{Team}
 use Rattle.steps.specs.declared.Stepped.{Stepped}
 use Rattle.steps.specs.Records.{isStopped}
@@ -92,7 +92,7 @@ module _ (l : Ledger) (w : WF l) (q : Request) (team : ℤ) (is : natOf team ≡
   other a k e two four = rw (e, silent team k n a two four, two) (nothing-noted 1)
 
   small : Asked (l .teams) (l .used) q → at l n .until ≤ 2147483647
-  small a = omega (arith, within-range l w n (a .node .low) (a .node .high) .high, w .until-limit)
+  small a = omega (arith, within-range l w n (in-use l q a) .high, w .limits .until-limit)
 
   noted : {a : Answered} → Answers l q a → Told a
   noted (refuses ne) = unfold noteOf batchOf isClaim in (simp (ne-eqb _ 0 ne, and-false) (nothing-noted 1))
@@ -100,11 +100,11 @@ module _ (l : Ledger) (w : WF l) (q : Request) (team : ℤ) (is : natOf team ≡
   noted (advances k a f) =
       unfold noteOf batchOf isClaim in
       (rw (k, ← is, positive)
-      (batch-noted (natOf team) n (positionOf (at l n)) (batchEnd (at l n) q) (omega (arith, a .team .high, w .teams-high)) (omega (arith, a .node .high, w .used-room, w .room-high)) (omega (arith, w .alone n (a .node .low) (a .node .high) .high, small a)) (omega (arith, f .end, small a))))
+      (batch-noted (natOf team) n (positionOf (at l n)) (batchEnd (at l n) q) (omega (arith, a .team .high, w .limits .teams-high)) (omega (arith, a .node .high, used-high l w)) (omega (arith, w .alone n (in-use l q a) .high, small a)) (omega (arith, f .end, small a))))
   noted (marks k a f) = other _ 3 k refl refl
   noted (expands k a f) =
       unfold noteOf batchOf isClaim in
-      (rw k (split-noted n (l .used + 1) (middle (at l n)) (omega (arith, a .node .high, w .used-room, w .room-high)) (omega (arith, room-left l w n (a .node .low) (a .node .high) f, w .room-high))))
+      (rw k (split-noted n (nextPair l) (middle (at l n)) (omega (arith, a .node .high, used-high l w)) (omega (arith, pair-room l w n (in-use l q a) f, w .limits .room-high))))
   noted (looks k a) = other _ 5 k refl refl
 
   request-noted : Told (requested l q)

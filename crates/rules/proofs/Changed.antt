@@ -1,6 +1,6 @@
 -- What a request changes: nothing, or the node that it names, which is in use; a split is that of a STOLEN node.
 use mathlib.Core.Path.{_≡_}
-use Prim.Native.Nat.{ℕ, _+_}
+use Prim.Native.Nat.{ℕ}
 use native.Mathlib.Decide.{ℕ-discrete}
 use Rattle.numbers.specs.Fields.{natOf}
 use Rattle.rules.specs.declared.Node.{Node}
@@ -12,17 +12,16 @@ use Rattle.rules.specs.declared.Change.the-variants.{Keep, Store, Split}
 use Rattle.rules.specs.Nodes.{parted, leftPart, rightPart}
 use Rattle.rules.specs.Refusals.{kindCode, refusal}
 use Rattle.rules.specs.Requests.{owning, advancing, marking, expanding, looking, granted, decided, view, nodeIn}
-use Rattle.rules.specs.Table.{at}
+use Rattle.rules.specs.Table.{InUse, at, nextPair}
 use Rattle.rules.proofs.Granted.{asked-facts, expand-facts, decided-granted, decided-refused}
 use Rattle.rules.proofs.States.{Stolen}
 use Rattle.rules.proofs.Tests.{Kind, own, advance, mark, expand, look, kind-of}
-use Rattle.rules.proofs.Tree.{InUse}
 
 pub data Changes (l : Ledger) (n : ℕ) : Change → Type 0 where
   keeps : Changes l n Keep
   stores : {x : Node} → InUse l n → Changes l n (Store x)
   splits : InUse l n → Stolen (at l n)
-      → Changes l n (Split (parted (at l n) (l .used + 1)) (l .used + 1) (leftPart (at l n)) (rightPart (at l n)))
+      → Changes l n (Split (parted (at l n) (nextPair l)) (nextPair l) (leftPart (at l n)) (rightPart (at l n)))
 
 module _ (l : Ledger) (q : Request) where
   abbrev n : ℕ

@@ -14,7 +14,7 @@ use Rattle.rules.specs.Moves.{byKind}
 use Rattle.rules.specs.Nodes.{moved, parted, positionOf, middle, leftPart, rightPart}
 use Rattle.rules.specs.Requests.{refused, ranged, split, batchEnd, nodeIn, answered, requested}
 use Rattle.rules.specs.Sheet40.{IsGranted, ClaimGranted, MarkGranted, SplitGranted}
-use Rattle.rules.specs.Table.{at, put, stolenIn}
+use Rattle.rules.specs.Table.{at, put, nextPair, stolenIn}
 use Rattle.rules.specs.WellFormed.{wellFormed}
 use Rattle.rules.proofs.Granted.{Asked, Advancing, Marking, after as splitAt, Answers, refuses, owns, advances, marks, expands, looks, answers}
 use Rattle.rules.proofs.Record.{WF, rules}
@@ -48,8 +48,8 @@ pub record Parted (l : Ledger) (r : Request) (a : Answered) : Type 0 where
   pub asked : Asked (l .teams) (l .used) r
   pub facts : Stolen (at l (nodeIn r))
   pub ledger : a .ledger
-      ≡ splitAt l (nodeIn r) (parted (at l (nodeIn r)) (l .used + 1)) (leftPart (at l (nodeIn r))) (rightPart (at l (nodeIn r)))
-  pub answer : a .answer ≡ split (l .used + 1) (middle (at l (nodeIn r)))
+      ≡ splitAt l (nodeIn r) (parted (at l (nodeIn r)) (nextPair l)) (nextPair l) (leftPart (at l (nodeIn r))) (rightPart (at l (nodeIn r)))
+  pub answer : a .answer ≡ split (nextPair l) (middle (at l (nodeIn r)))
 
 -- what is so of a granted request of a kind
 abbrev GrantedAs : ℕ → Ledger → Request → Answered → Type 0

@@ -21,10 +21,10 @@ use Rattle.rules.proofs.TreeSum.{sumTree, tree-sum}
 module _ (l : Ledger) (w : WF l) where
   below : {n : ℕ} (t : Tree l n) → sumTree (λ (m : ℕ). restOf (at l m)) t ≤ at l n .until - at l n .start
   unfolding sumTree restOf middle
-  below (leaf {n = n} u e) = rw (eq-eqb (at l n .left) 0 e) (omega (arith, w .alone n (u .low) (u .high) .low))
+  below (leaf {n = n} u e) = rw (eq-eqb (at l n .left) 0 e) (omega (arith, w .alone n u .low))
   below (fork {n = n} {c = c} u some e x y) =
-      let a = w .alone n (u .low) (u .high) in
-      let p = rw e at (w .pair n (u .low) (u .high) (omega arith)) in
+      let a = w .alone n u in
+      let p = rw e at (w .pair n u (omega arith)) in
       let ne : at l n .left ≢ 0 = omega arith in
       rw
       (ne-eqb (at l n .left) 0 ne)
@@ -45,5 +45,5 @@ count-fits l slots = go (wellFormed l) refl
     given b = cond b (record { code = 0; count = unclaimed l }) (record { code = 1; count = 0 })
 
     go : (b : Bool) → wellFormed l ≡ b → given b .count ≤ maxUntil
-    go true e = omega (arith, count-at-most l slots e, rules l slots e .until-limit)
+    go true e = omega (arith, count-at-most l slots e, rules l slots e .limits .until-limit)
     go false e = omega arith

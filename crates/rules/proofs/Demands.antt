@@ -19,8 +19,8 @@ use Rattle.rules.specs.Requests.{view, nodeIn, answered, requested}
 use Rattle.rules.specs.States.{stateOf}
 use Rattle.rules.specs.Table.{at}
 use Rattle.rules.specs.WellFormed.{wellFormed}
-use Rattle.rules.proofs.Expand.{room-left}
-use Rattle.rules.proofs.Granted.{not-yet, Answers, refuses, owns, advances, marks, expands, looks, late-facts, answers}
+use Rattle.rules.proofs.Spare.{left-blank, right-blank, pair-room}
+use Rattle.rules.proofs.Granted.{not-yet, in-use, Answers, refuses, owns, advances, marks, expands, looks, late-facts, answers}
 use Rattle.rules.proofs.Keeps.{wf-answered, requested-wf, refused-keeps}
 use Rattle.rules.proofs.Moves.{moves, others, none}
 use Rattle.rules.proofs.Opens.{opened-wf}
@@ -51,7 +51,7 @@ told : {l : Ledger} {r : Request} {a : Answered} → WF l → Answers l r a → 
 unfolding view
 told {l} {r} w (refuses ne) e =
     let late = late-facts (view l (nodeIn r)) r e in
-    let p = w .pair (nodeIn r) (late .asked .node .low) (late .asked .node .high) (late .parent) in
+    let p = w .pair (nodeIn r) (in-use l r (late .asked)) (late .parent) in
     rw e (record { left = refl; left-until = p .left-until; right-start = p .right-start })
 told w (owns k q f) e = absurd (omega arith)
 told w (advances k q f) e = absurd (omega arith)
@@ -63,13 +63,15 @@ pub late-splitter-told : LateSplitterTold
 late-splitter-told l r slots e = let w = rules l slots e in rw (requested-wf l r w) (told w (answers l r))
 
 pub room-for-every-split : RoomForEverySplit
-room-for-every-split l n slots e low high s = room-left l (rules l slots e) n low high (is-stolen (at l n) s)
+room-for-every-split l n slots e u s =
+    let w = rules l slots e in
+    record { fits = pair-room l w n u (is-stolen (at l n) s); left = left-blank l w; right = right-blank l w }
 
 pub owned-has-some : OwnedHasSome
-owned-has-some l n slots e low high s =
+owned-has-some l n slots e u s =
     let x = at l n in
     let o = is-owned x s in
-    omega (arith, rules l slots e .alone n low high .high, not-yet (x .progress) (x .until) (o .plain) (o .going))
+    omega (arith, rules l slots e .alone n u .high, not-yet (x .progress) (x .until) (o .plain) (o .going))
 
 pub last-sheet : LastSheet
 unfolding leftPart rightPart middle
@@ -78,9 +80,9 @@ last-sheet x one =
     (ap (λ (m : ℕ). fresh (positionOf x) m) same, ap (λ (m : ℕ). fresh m (x .until)) same)
 
 pub empty-never-owned : EmptyNeverOwned
-empty-never-owned l n slots e low high empty =
+empty-never-owned l n slots e u empty =
     let x = at l n in
-    let alone = rules l slots e .alone n low high in
+    let alone = rules l slots e .alone n u in
     let nobody = alone .empty empty in
     (completed-is x (rw (alone .unowned nobody ∙ ap pos empty) (isNat-made (x .until))), nobody)
 

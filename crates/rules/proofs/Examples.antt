@@ -11,7 +11,7 @@ use Rattle.rules.specs.Demands.{TwelveExamples}
 use Rattle.rules.specs.Limits.{opens}
 use Rattle.rules.specs.Nodes.{blank, middle, leftPart, rightPart}
 use Rattle.rules.specs.States.{stateOf, stolenOf}
-use Rattle.rules.specs.Table.{at, put, grown, sumBy, stolenIn}
+use Rattle.rules.specs.Table.{at, put, nextPair, grown, sumBy, stolenIn}
 use Rattle.rules.specs.WellFormed.{upTo, aloneRule, childRule, nodeRule, leftIs, pairRule, roomRule, rootRange, numbersRule, unusedRule, wellFormed}
 use Rattle.rules.specs.Refusals.{ownCode, advanceCode, markCode, expandCode, kindCode, refusal}
 use Rattle.rules.specs.Requests.{owning, batchEnd, advancing, marking, expanding, looking, granted, decided, view, changed, answered, requested}
@@ -51,7 +51,7 @@ also : {A B : Type 0} → A → B → A × B
 also a b = (a, b)
 
 pub twelve-examples : TwelveExamples
-unfolding opens middle leftPart rightPart stateOf stolenOf at put grown sumBy stolenIn upTo aloneRule childRule nodeRule leftIs pairRule ownCode advanceCode markCode expandCode kindCode refusal owning batchEnd advancing marking expanding looking granted decided view changed answered restOf unclaimed
+unfolding opens middle leftPart rightPart stateOf stolenOf at put nextPair grown sumBy stolenIn upTo aloneRule childRule nodeRule leftIs pairRule ownCode advanceCode markCode expandCode kindCode refusal owning batchEnd advancing marking expanding looking granted decided view changed answered restOf unclaimed
 twelve-examples =
     also (right example-a 1022 refl refl refl refl refl)
     (also (right example-b 1022 refl refl refl refl refl)

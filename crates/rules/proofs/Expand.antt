@@ -1,8 +1,8 @@
--- A split of a STOLEN node keeps a ledger well formed, and always finds room.
+-- A split of a STOLEN node, slot by slot, and that it keeps a ledger well formed.
 use mathlib.Core.Path.{_≡_, refl, ap, _∙_}
 use mathlib.Core.Logic.{_≢_}
 use mathlib.Core.Bool.{true, false}
-use Prim.Native.Nat.{ℕ, _+_, _-_, _*_, _%_, _≤_, _<_}
+use Prim.Native.Nat.{ℕ, _+_, _*_, _%_, _≤_, _<_, max}
 use native.Mathlib.Omega.{arith}
 use native.Mathlib.Decide.{ℕ-discrete, decLe}
 use lib.ListN.{length}
@@ -10,15 +10,16 @@ use Rattle.rules.specs.declared.Node.{Node}
 use Rattle.rules.specs.declared.Ledger.{Ledger}
 use Rattle.rules.specs.Nodes.{blank, fresh, parted, middle, leftPart, rightPart}
 use Rattle.rules.specs.States.{stolenOf}
-use Rattle.rules.specs.Table.{at, put, grown, sumBy, stolenIn}
+use Rattle.rules.specs.Table.{InUse, at, put, nextPair, grown, sumBy, stolenIn}
 use Rattle.rules.specs.WellFormed.{leftIs}
 use Rattle.rules.proofs.Granted.{after}
 use Rattle.rules.proofs.Nodes.{at-next}
 use Rattle.rules.proofs.Parents.{no-left, is-left}
-use Rattle.rules.proofs.Record.{WF, Alone, Pair}
-use Rattle.rules.proofs.Split as Split
+use Rattle.rules.proofs.Record.{WF, Alone, Pair, in-table, left-used, right-used, root-used}
+use Rattle.rules.proofs.Spare.{spare, left-blank, right-blank, not-left, not-right, pair-room, pair-fits}
+use Rattle.rules.proofs.Split.{split-here, split-left, split-right, split-other, split-length, split-sum}
 use Rattle.rules.proofs.States.{Stolen, stolen-one, parent-none, fresh-none, blank-none}
-use Rattle.rules.proofs.Sums.{sumBy-ge, sumBy-zero}
+use Rattle.rules.proofs.Sums.{sumBy-zero}
 
 -- a new node is good by itself
 pub alone-fresh : (teams a b : ℕ) → a ≤ b → Alone teams (fresh a b)
@@ -33,55 +34,96 @@ alone-fresh teams a b h =
       lone = λ e. refl;
     }
 
-module _ (l : Ledger) (w : WF l) (n : ℕ) (low : 1 ≤ n) (high : n ≤ l .used) (s : Stolen (at l n)) where
-  -- a STOLEN node has a pair to take
-  pub room-left : l .used + 2 ≤ l .room
-  unfolding stolenIn at
-  room-left =
-      omega
-      (arith, w .loaded, stolen-one (at l n) s, sumBy-ge stolenOf (l .nodes) (n - 1) blank (omega (arith, w .slots, w .used-room, w .room-high)))
+-- a node in use after a split of n into the pair c: n itself, one of the two, or another that was in use
+pub data Among (l : Ledger) (n c m : ℕ) : Type 0 where
+  parent : m ≡ n → Among l n c m
+  left : m ≡ c → Among l n c m
+  right : m ≡ c + 1 → Among l n c m
+  other : InUse l m → m ≢ n → m ≢ c → m ≢ c + 1 → Among l n c m
 
-  -- and its two slots are there
-  pub pair-fits : l .used + 2 ≤ length (l .nodes)
-  pair-fits = omega (arith, room-left, w .room-high, w .slots)
+-- the ledger next has at node n the node y, at the pair c the nodes a and b, and else what l has
+pub record Slots (l next : Ledger) (n c : ℕ) (y a b : Node) : Type 0 where
+  pub here : at next n ≡ y
+  pub left : at next c ≡ a
+  pub right : at next (c + 1) ≡ b
+  pub other : (m : ℕ) → 1 ≤ m → m ≢ n → m ≢ c → m ≢ c + 1 → at next m ≡ at l m
+  -- what was in use still is, and so are both
+  pub kept : (m : ℕ) → InUse l m → InUse next m
+  pub left-used : InUse next c
+  pub right-used : InUse next (c + 1)
+  pub among : (m : ℕ) → InUse next m → Among l n c m
+
+module _ (l : Ledger) (w : WF l) (n : ℕ) (u : InUse l n) (s : Stolen (at l n)) where
+  abbrev c : ℕ
+  c = nextPair l
 
   abbrev x : Node
   x = at l n
 
   abbrev y : Node
-  y = parted x (l .used + 1)
+  y = parted x c
 
-  abbrev next : Ledger
-  next = after l n y (leftPart x) (rightPart x)
+  -- the ledger after the split
+  abbrev pub next : Ledger
+  next = after l n y c (leftPart x) (rightPart x)
 
-  -- slot by slot
-  pub here-is : at next n ≡ y
-  here-is = Split.split-here l n y (leftPart x) (rightPart x) low high pair-fits
+  some : 1 ≤ c
+  some = omega (arith, spare l w .past)
 
-  pub left-is : at next (l .used + 1) ≡ leftPart x
-  left-is = Split.split-left l n y (leftPart x) (rightPart x) low high pair-fits
+  far : n ≢ c
+  far = not-left l w n u
 
-  pub right-is : at next (l .used + 1 + 1) ≡ rightPart x
-  right-is = Split.split-right l n y (leftPart x) (rightPart x) low high pair-fits
+  far′ : n ≢ c + 1
+  far′ = not-right l w n u
 
-  pub other-is : (m : ℕ) → 1 ≤ m → m ≢ n → m ≢ l .used + 1 → m ≢ l .used + 1 + 1 → at next m ≡ at l m
-  other-is = Split.split-other l n y (leftPart x) (rightPart x) low high pair-fits
+  fits : n ≤ length (l .nodes)
+  fits = in-table l w n u
 
-  sums : (f : Node → ℕ) → f blank ≡ 0 → sumBy f (next .nodes) + f x ≡ sumBy f (l .nodes) + (f y + (f (leftPart x) + f (rightPart x)))
+  room : c + 1 ≤ length (l .nodes)
+  room = pair-fits l w n u s
+
+  in-next : (m : ℕ) → 1 ≤ m → m ≤ max (l .used) (c + 1) → InUse next m
+  unfolding put grown
+  in-next m p q = record { low = p; high = q }
+
+  among-next : (m : ℕ) → InUse next m → Dec (m ≡ n) → Dec (m ≡ c) → Dec (m ≡ c + 1) → Among l n c m
+  unfolding put grown
+  among-next m v (yes e) d₁ d₂ = parent e
+  among-next m v (no ne) (yes e) d₂ = left e
+  among-next m v (no ne) (no n₁) (yes e) = right e
+  among-next m v (no ne) (no n₁) (no n₂) = other (record { low = v .low; high = omega (arith, v .high, spare l w .next) }) ne n₁ n₂
+
+  pub split-slots : Slots l next n c y (leftPart x) (rightPart x)
+  split-slots =
+      record {
+        here = split-here l n c y (leftPart x) (rightPart x) (u .low) fits some room far far′;
+        left = split-left l n c y (leftPart x) (rightPart x) (u .low) fits some room far far′;
+        right = split-right l n c y (leftPart x) (rightPart x) (u .low) fits some room far far′;
+        other = split-other l n c y (leftPart x) (rightPart x) (u .low) fits some room far far′;
+        kept = λ m v. in-next m (v .low) (omega (arith, v .high));
+        left-used = in-next c some (omega arith);
+        right-used = in-next (c + 1) (omega arith) (omega arith);
+        among = λ m v. among-next m v (ℕ-discrete m n) (ℕ-discrete m c) (ℕ-discrete m (c + 1));
+      }
+
+  pub stays : (m : ℕ) → InUse l m → m ≢ n → at next m ≡ at l m
+  stays m v ne = split-slots .other m (v .low) ne (not-left l w m v) (not-right l w m v)
+
+  pub sums : (f : Node → ℕ) → f blank ≡ 0 → sumBy f (next .nodes) + f x ≡ sumBy f (l .nodes) + (f y + (f (leftPart x) + f (rightPart x)))
   sums f z =
       omega
-      (arith, Split.split-sum l n y (leftPart x) (rightPart x) low high pair-fits f, ap f (w .blank (l .used + 1) (omega arith)), ap f (w .blank (l .used + 1 + 1) (omega arith)))
+      (arith, split-sum l n c y (leftPart x) (rightPart x) (u .low) fits some room far far′ f, ap f (left-blank l w), ap f (right-blank l w))
 
-  kept-range : (m : ℕ) → 1 ≤ m → m ≤ l .used → (at next m .start ≡ at l m .start) × (at next m .until ≡ at l m .until)
-  kept-range m p q = go (ℕ-discrete m n)
+  kept-range : (m : ℕ) → InUse l m → (at next m .start ≡ at l m .start) × (at next m .until ≡ at l m .until)
+  kept-range m v = go (ℕ-discrete m n)
     where
       go : Dec (m ≡ n) → (at next m .start ≡ at l m .start) × (at next m .until ≡ at l m .until)
-      go (yes e) = rw (e, here-is) (refl, refl)
-      go (no ne) = rw (other-is m p ne (omega arith) (omega arith)) (refl, refl)
+      go (yes e) = rw (e, split-slots .here) (refl, refl)
+      go (no ne) = rw (stays m v ne) (refl, refl)
 
   -- the nodes by themselves
   alone-x : Alone (l .teams) x
-  alone-x = w .alone n low high
+  alone-x = w .alone n u
 
   alone-y : Alone (l .teams) y
   alone-y =
@@ -95,113 +137,116 @@ module _ (l : Ledger) (w : WF l) (n : ℕ) (low : 1 ≤ n) (high : n ≤ l .used
         lone = alone-x .lone;
       }
 
-  alone-next : (m : ℕ) → 1 ≤ m → m ≤ l .used + 2 → Dec (m ≡ n) → Dec (m ≡ l .used + 1) → Dec (m ≡ l .used + 1 + 1) → Alone (l .teams) (at next m)
+  alone-next : (m : ℕ) → Among l n c m → Alone (l .teams) (at next m)
   unfolding leftPart rightPart middle
-  alone-next m p q (yes e) d₁ d₂ = rw (e, here-is) alone-y
-  alone-next m p q (no ne) (yes e) d₂ = rw (e, left-is) (alone-fresh _ _ _ (omega arith))
-  alone-next m p q (no ne) (no n₁) (yes e) = rw (e, right-is) (alone-fresh _ _ _ (omega (arith, alone-x .high)))
-  alone-next m p q (no ne) (no n₁) (no n₂) = rw (other-is m p ne n₁ n₂) (w .alone m p (omega arith))
+  alone-next m (parent e) = rw (e, split-slots .here) alone-y
+  alone-next m (left e) = rw (e, split-slots .left) (alone-fresh _ _ _ (omega arith))
+  alone-next m (right e) = rw (e, split-slots .right) (alone-fresh _ _ _ (omega (arith, alone-x .high)))
+  alone-next m (other v ne n₁ n₂) = rw (split-slots .other m (v .low) ne n₁ n₂) (w .alone m v)
 
   -- children
-  pair-kept : (m : ℕ) (z : Node) → Pair (at l) (l .used) m z → Pair (at next) (l .used + 2) m z
-  pair-kept m z p =
-      let a = p .later in
-      let b = p .inside in
-      let k₁ = kept-range (z .left) (omega arith) (omega arith) in
-      let k₂ = kept-range (z .left + 1) (omega arith) (omega arith) in
+  abbrev used′ : ℕ
+  used′ = max (l .used) (c + 1)
+
+  pair-kept : (m : ℕ) → InUse l m → 0 < at l m .left → Pair (at next) used′ (at l m)
+  pair-kept m v h =
+      let p = w .pair m v h in
+      let k₁ = kept-range (at l m .left) (left-used l w m v h) in
+      let k₂ = kept-range (at l m .left + 1) (right-used l w m v h) in
       record {
         mark = p .mark;
         even = p .even;
-        later = p .later;
-        inside = omega arith;
+        inside = omega (arith, p .inside);
         left-start = k₁ .0 ∙ p .left-start;
         left-until = k₁ .1 ∙ p .left-until;
         right-start = k₂ .0 ∙ p .right-start;
         right-until = k₂ .1 ∙ p .right-until;
       }
 
-  pair-y : Pair (at next) (l .used + 2) n y
+  pair-y : Pair (at next) used′ y
   unfolding leftPart rightPart middle
   pair-y =
       record {
         mark = s .mark;
-        even = omega (arith, w .odd);
-        later = omega arith;
+        even = spare l w .even;
         inside = omega arith;
-        left-start = rw left-is;
-        left-until = rw left-is;
-        right-start = rw right-is;
-        right-until = rw right-is;
+        left-start = rw (split-slots .left);
+        left-until = rw (split-slots .left);
+        right-start = rw (split-slots .right);
+        right-until = rw (split-slots .right);
       }
 
-  pair-next : (m : ℕ) → 1 ≤ m → m ≤ l .used + 2 → Dec (m ≡ n) → Dec (m ≡ l .used + 1) → Dec (m ≡ l .used + 1 + 1)
-      → 0 < at next m .left
-      → Pair (at next) (l .used + 2) m (at next m)
+  pair-next : (m : ℕ) → Among l n c m → 0 < at next m .left → Pair (at next) used′ (at next m)
   unfolding leftPart rightPart
-  pair-next m p q (yes e) d₁ d₂ = rw (e, here-is) (λ h. pair-y)
-  pair-next m p q (no ne) (yes e) d₂ = rw (e, left-is) (λ h. absurd (omega arith))
-  pair-next m p q (no ne) (no n₁) (yes e) = rw (e, right-is) (λ h. absurd (omega arith))
-  pair-next m p q (no ne) (no n₁) (no n₂) = rw (other-is m p ne n₁ n₂) (λ h. pair-kept m (at l m) (w .pair m p (omega arith) h))
+  pair-next m (parent e) = rw (e, split-slots .here) (λ h. pair-y)
+  pair-next m (left e) = rw (e, split-slots .left) (λ h. absurd (omega arith))
+  pair-next m (right e) = rw (e, split-slots .right) (λ h. absurd (omega arith))
+  pair-next m (other v ne n₁ n₂) = rw (split-slots .other m (v .low) ne n₁ n₂) (λ h. pair-kept m v h)
+
+  later-next : (m : ℕ) → Among l n c m → 0 < at next m .left → m < at next m .left
+  unfolding leftPart rightPart
+  later-next m (parent e) = rw (e, split-slots .here) (λ h. omega (arith, u .high, spare l w .past))
+  later-next m (left e) = rw (e, split-slots .left) (λ h. absurd (omega arith))
+  later-next m (right e) = rw (e, split-slots .right) (λ h. absurd (omega arith))
+  later-next m (other v ne n₁ n₂) = rw (split-slots .other m (v .low) ne n₁ n₂) (λ h. w .later m v h)
 
   -- nobody has the new pair yet
-  left-below : (m : ℕ) → 1 ≤ m → at l m .left ≢ l .used + 1
+  left-below : (m : ℕ) → 1 ≤ m → at l m .left ≢ c
   left-below m p = go (ℕ-discrete (at l m .left) 0) (decLe m (l .used))
     where
-      go : Dec (at l m .left ≡ 0) → Dec (m ≤ l .used) → at l m .left ≢ l .used + 1
-      go (yes e) d = omega arith
-      go (no ne) (yes h) = omega (arith, w .pair m p h (omega arith) .inside)
+      go : Dec (at l m .left ≡ 0) → Dec (m ≤ l .used) → at l m .left ≢ c
+      go (yes e) d = omega (arith, some)
+      go (no ne) (yes h) = not-left l w (at l m .left) (left-used l w m (record { low = p; high = h }) (omega arith))
       go (no ne) (no k) = absurd (ne (rw (w .blank m (omega arith))))
 
-  none-yet : sumBy (leftIs (l .used + 1)) (l .nodes) ≡ 0
+  none-yet : sumBy (leftIs c) (l .nodes) ≡ 0
   none-yet =
       sumBy-zero
-      (leftIs (l .used + 1))
+      (leftIs c)
       (l .nodes)
       blank
-      (λ i h. no-left (l .used + 1) _ (rw at-next at (left-below (i + 1) (omega arith))))
+      (λ i h. no-left c _ (rw at-next at (left-below (i + 1) (omega arith))))
 
   -- each pair has one parent: only the split node's left child is another than before
-  left-sums : (c : ℕ) → 0 < c → sumBy (leftIs c) (next .nodes) ≡ sumBy (leftIs c) (l .nodes) + leftIs c y
+  left-sums : (d : ℕ) → 0 < d → sumBy (leftIs d) (next .nodes) ≡ sumBy (leftIs d) (l .nodes) + leftIs d y
   unfolding leftPart rightPart
-  left-sums c p =
-      let was = no-left c x (omega (arith, s .leaf)) in
-      let a = no-left c (leftPart x) (omega arith) in
-      let b = no-left c (rightPart x) (omega arith) in
-      omega (arith, sums (leftIs c) (no-left c blank (omega arith)))
+  left-sums d p =
+      let was = no-left d x (omega (arith, s .leaf)) in
+      let a = no-left d (leftPart x) (omega arith) in
+      let b = no-left d (rightPart x) (omega arith) in
+      omega (arith, sums (leftIs d) (no-left d blank (omega arith)))
 
-  parent-next : (c : ℕ) → 0 < c → c < l .used + 2 → c % 2 ≡ 0 → Dec (c ≡ l .used + 1) → sumBy (leftIs c) (next .nodes) ≡ 1
-  parent-next c p q e (yes f) = rw f (omega (arith, left-sums (l .used + 1) (omega arith), none-yet, is-left (l .used + 1) y refl))
-  parent-next c p q e (no f) =
-      omega (arith, left-sums c p, w .parent c p (omega (arith, w .odd)) e, no-left c y (omega arith))
+  parent-next : (d : ℕ) → 0 < d → d < used′ → d % 2 ≡ 0 → Dec (d ≡ c) → sumBy (leftIs d) (next .nodes) ≡ 1
+  parent-next d p q e (yes f) = rw f (omega (arith, left-sums c some, none-yet, is-left c y refl))
+  parent-next d p q e (no f) =
+      omega (arith, left-sums d p, w .parent d p (omega (arith, w .odd, spare l w .next, spare l w .even)) e, no-left d y (omega arith))
 
   -- one STOLEN node less makes up for the pair
-  pub load-next : l .used + 2 + 2 * stolenIn next ≡ l .used + 2 * stolenIn l
+  pub load-next : used′ + 2 * stolenIn next ≡ l .used + 2 * stolenIn l
   unfolding stolenIn leftPart rightPart
   load-next =
       let was = stolen-one x s in
-      let is = parent-none y (omega arith) in
+      let is = parent-none y some in
       let a = fresh-none (leftPart x .start) (leftPart x .until) in
       let b = fresh-none (rightPart x .start) (rightPart x .until) in
-      omega (arith, sums stolenOf blank-none)
+      omega (arith, sums stolenOf blank-none, spare l w .next, spare l w .past)
 
   pub wf-split : WF next
   unfolding put grown
   wf-split =
       record {
-        ordered = w .ordered;
-        until-limit = w .until-limit;
-        teams-low = w .teams-low;
-        teams-high = w .teams-high;
-        room-low = w .room-low;
-        room-high = w .room-high;
-        slots = Split.split-length l n y (leftPart x) (rightPart x) low high pair-fits ∙ w .slots;
-        odd = omega (arith, w .odd);
-        used-room = room-left;
-        root-start = kept-range 1 (omega arith) (omega arith) .0 ∙ w .root-start;
-        root-until = kept-range 1 (omega arith) (omega arith) .1 ∙ w .root-until;
-        alone = λ m p q. alone-next m p q (ℕ-discrete m n) (ℕ-discrete m (l .used + 1)) (ℕ-discrete m (l .used + 1 + 1));
-        pair = λ m p q. pair-next m p q (ℕ-discrete m n) (ℕ-discrete m (l .used + 1)) (ℕ-discrete m (l .used + 1 + 1));
-        parent = λ c p q e. parent-next c p q e (ℕ-discrete c (l .used + 1));
+        limits = w .limits;
+        slots = split-length l n c y (leftPart x) (rightPart x) (u .low) fits some room far far′ ∙ w .slots;
+        odd = omega (arith, w .odd, spare l w .even, spare l w .past);
+        used-room = omega (arith, pair-room l w n u s, w .used-room);
+        root-start = kept-range 1 (root-used l w) .0 ∙ w .root-start;
+        root-until = kept-range 1 (root-used l w) .1 ∙ w .root-until;
+        alone = λ m v. alone-next m (split-slots .among m v);
+        pair = λ m v. pair-next m (split-slots .among m v);
+        later = λ m v. later-next m (split-slots .among m v);
+        parent = λ d p q e. parent-next d p q e (ℕ-discrete d c);
         loaded = omega (arith, load-next, w .loaded);
-        blank = λ m p. other-is m (omega arith) (omega arith) (omega arith) (omega arith) ∙ w .blank m (omega arith);
+        blank =
+            λ m p.
+            split-slots .other m (omega arith) (omega (arith, u .high)) (omega arith) (omega arith) ∙ w .blank m (omega arith);
       }

@@ -21,7 +21,7 @@ use Rattle.rules.specs.declared.Change.the-variants.{Keep}
 use Rattle.rules.specs.Limits.{maxAmount}
 use Rattle.rules.specs.Nodes.{owned, moved, parted, marked, unowned, childless, positionOf, middle, leftPart, rightPart}
 use Rattle.rules.specs.States.{completed}
-use Rattle.rules.specs.Table.{at, put, grown, stolenIn}
+use Rattle.rules.specs.Table.{InUse, at, put, nextPair, grown, stolenIn}
 use Rattle.rules.specs.Refusals.{allTests, ownTests, advanceTests, markTests, expandTests, ownCode, advanceCode, markCode, expandCode, kindCode, refusal}
 use Rattle.rules.specs.Requests.{refusing, ranged, split, seen, outcome, owning, batchEnd, advancing, marking, expanding, looking, granted, decided, view, changed, nodeIn, answered}
 use Rattle.rules.specs.Tests.{_when_}
@@ -36,6 +36,9 @@ pub record Asked (teams used : ℕ) (r : Request) : Type 0 where
   pub kind : Within (r .kind) 1 5
   pub team : Within (r .team) 1 teams
   pub node : Within (r .node) 1 used
+
+pub in-use : (l : Ledger) (r : Request) → Asked (l .teams) (l .used) r → InUse l (nodeIn r)
+in-use l r a = record { low = a .node .low; high = a .node .high }
 
 pub record Owning (x : Node) : Type 0 where
   pub nobody : x .owner ≡ 0
@@ -65,8 +68,9 @@ pub record Marking (x : Node) (r : Request) (load room : ℕ) : Type 0 where
 
 -- ---- the answer, and the ledger after it
 
-abbrev pub after : Ledger → ℕ → Node → Node → Node → Ledger
-after l n x a b = grown (put (put (put l n x) (l .used + 1) a) (l .used + 1 + 1) b)
+-- node n becomes x, and has the children a and b at the pair c
+abbrev pub after : Ledger → ℕ → Node → ℕ → Node → Node → Ledger
+after l n x c a b = grown (put (put (put l n x) c a) (c + 1) b) c
 
 pub data Answers (l : Ledger) (r : Request) : Answered → Type 0 where
   refuses : refusal (view l (nodeIn r)) r ≢ 0
@@ -90,8 +94,8 @@ pub data Answers (l : Ledger) (r : Request) : Answered → Type 0 where
   expands : natOf (r .kind) ≡ 4 → Asked (l .teams) (l .used) r → Stolen (at l (nodeIn r))
       → Answers l r (record {
         ledger =
-            after l (nodeIn r) (parted (at l (nodeIn r)) (l .used + 1)) (leftPart (at l (nodeIn r))) (rightPart (at l (nodeIn r)));
-        answer = split (l .used + 1) (middle (at l (nodeIn r)));
+            after l (nodeIn r) (parted (at l (nodeIn r)) (nextPair l)) (nextPair l) (leftPart (at l (nodeIn r))) (rightPart (at l (nodeIn r)));
+        answer = split (nextPair l) (middle (at l (nodeIn r)));
       })
   looks : natOf (r .kind) ≡ 5 → Asked (l .teams) (l .used) r
       → Answers l r (record { ledger = l; answer = seen (at l (nodeIn r)) })

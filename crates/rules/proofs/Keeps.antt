@@ -2,9 +2,8 @@
 use mathlib.Core.Path.{_≡_, refl, sym, _∙_}
 use mathlib.Core.Logic.{_≢_}
 use mathlib.Core.Bool.{Bool, true, false, cond, true≢false}
-use Prim.Native.Nat.{ℕ, _+_, _*_, _<_}
+use Prim.Native.Nat.{ℕ, _+_, _*_}
 use native.Mathlib.Omega.{arith}
-use native.Mathlib.Decide.{decLt}
 use lib.IntN.{pos, negsuc}
 use Rattle.numbers.specs.Fields.{natOf}
 use Rattle.numbers.proofs.Laws.{isNat-made}
@@ -12,13 +11,13 @@ use Rattle.rules.specs.declared.Node.{Node}
 use Rattle.rules.specs.declared.Ledger.{Ledger}
 use Rattle.rules.specs.declared.Request.{Request}
 use Rattle.rules.specs.declared.Answered.{Answered}
-use Rattle.rules.specs.Nodes.{owned, moved, marked, positionOf}
-use Rattle.rules.specs.Table.{at, put, stolenIn}
+use Rattle.rules.specs.Nodes.{owned, moved, positionOf}
+use Rattle.rules.specs.Table.{InUse, at, put, stolenIn}
 use Rattle.rules.specs.WellFormed.{wellFormed}
 use Rattle.rules.specs.Requests.{refused, refusing, batchEnd, nodeIn, view, answered, requested}
-use Rattle.rules.proofs.Record.{WF, Alone, rules-back}
+use Rattle.rules.proofs.Record.{WF, Alone, rules-back, no-children}
 use Rattle.rules.proofs.States.{owned-same, unmarked-none, at-most-one}
-use Rattle.rules.proofs.Granted.{Asked, Owning, Advancing, Marking, Answers, refuses, owns, advances, marks, expands, looks, answers}
+use Rattle.rules.proofs.Granted.{Asked, in-use, Owning, Advancing, Marking, Answers, refuses, owns, advances, marks, expands, looks, answers}
 use Rattle.rules.proofs.Store.{wf-store}
 use Rattle.rules.proofs.Expand.{wf-split}
 
@@ -29,16 +28,11 @@ module _ (l : Ledger) (w : WF l) (r : Request) (asked : Asked (l .teams) (l .use
   abbrev x : Node
   x = at l n
 
-  alone : Alone (l .teams) x
-  alone = w .alone n (asked .node .low) (asked .node .high)
+  u : InUse l n
+  u = in-use l r asked
 
-  -- no node has children before its mark
-  pub no-children : marked x ≡ false → x .left ≡ 0
-  no-children plain = go (decLt 0 (x .left))
-    where
-      go : Dec (0 < x .left) → x .left ≡ 0
-      go (yes h) = absurd (true≢false (sym (w .pair n (asked .node .low) (asked .node .high) h .mark) ∙ plain))
-      go (no h) = omega arith
+  alone : Alone (l .teams) x
+  alone = w .alone n u
 
   wf-owned : Owning x → WF (put l n (owned x (natOf (r .team))))
   wf-owned o =
@@ -47,8 +41,7 @@ module _ (l : Ledger) (w : WF l) (r : Request) (asked : Asked (l .teams) (l .use
       w
       n
       y
-      (asked .node .low)
-      (asked .node .high)
+      u
       (record { start = refl; until = refl; left = refl; still = λ h. refl })
       (record {
         low = alone .low;
@@ -72,9 +65,8 @@ module _ (l : Ledger) (w : WF l) (r : Request) (asked : Asked (l .teams) (l .use
       w
       n
       y
-      (asked .node .low)
-      (asked .node .high)
-      (record { start = refl; until = refl; left = refl; still = λ h. absurd (omega (arith, no-children (p .plain))) })
+      u
+      (record { start = refl; until = refl; left = refl; still = λ h. absurd (omega (arith, no-children l w n u (p .plain))) })
       (record {
         low = omega (arith, a .end, alone .low, alone .high);
         high = omega (arith, a .end);
@@ -97,9 +89,8 @@ module _ (l : Ledger) (w : WF l) (r : Request) (asked : Asked (l .teams) (l .use
       w
       n
       y
-      (asked .node .low)
-      (asked .node .high)
-      (record { start = refl; until = refl; left = refl; still = λ h. absurd (omega (arith, no-children (p .plain))) })
+      u
+      (record { start = refl; until = refl; left = refl; still = λ h. absurd (omega (arith, no-children l w n u (p .plain))) })
       (record {
         low = alone .low;
         high = alone .high;
@@ -120,7 +111,7 @@ wf-answers {l} {r} w (owns k q f) = wf-owned l w r q f
 wf-answers {l} {r} w (advances k q f) = wf-advanced l w r q f
 wf-answers {l} {r} w (marks k q f) = wf-marked l w r q f
 wf-answers {l} {r} w (expands k q f) =
-    wf-split l w (nodeIn r) (q .node .low) (q .node .high) (record { mark = f .mark; leaf = f .leaf })
+    wf-split l w (nodeIn r) (in-use l r q) f
 wf-answers w (looks k q) = w
 
 pub wf-answered : (l : Ledger) (r : Request) → WF l → WF (answered l r .ledger)

@@ -3,10 +3,9 @@ use mathlib.Core.Path.{_≡_, refl, ap}
 use mathlib.Core.Logic.{_≢_, _⊎_, inl, inr}
 use mathlib.Core.Bool.{Bool, true, false, false≢true}
 use mathlib.Core.List.{List, []}
-use Prim.Native.Nat.{ℕ, _+_, _*_, _≤_}
+use Prim.Native.Nat.{ℕ, _+_, _*_}
 use native.Mathlib.Omega.{arith}
 use lib.IntN.{pos, negsuc}
-use lib.ListN.{length}
 use Rattle.numbers.specs.Progress.{negative}
 use Rattle.numbers.specs.Fields.{natOf}
 use Rattle.rules.specs.declared.Node.{Node}
@@ -14,17 +13,16 @@ use Rattle.rules.specs.declared.Ledger.{Ledger}
 use Rattle.rules.specs.declared.Request.{Request}
 use Rattle.rules.specs.declared.Answered.{Answered}
 use Rattle.rules.specs.Moves.{leads, isIn}
-use Rattle.rules.specs.Nodes.{owned, moved, parted, marked, positionOf, leftPart, rightPart}
+use Rattle.rules.specs.Nodes.{owned, moved, parted, marked, positionOf}
 use Rattle.rules.specs.Requests.{batchEnd, nodeIn}
 use Rattle.rules.specs.States.{AVAILABLE, OWNED, COMPLETED, STOLEN, EXPANDED, completed, stateOf}
-use Rattle.rules.specs.Table.{at, put, stolenIn}
-use Rattle.rules.proofs.Granted.{Asked, Owning, Advancing, Marking, Answers, refuses, owns, advances, marks, expands, looks}
-use Rattle.rules.proofs.Keeps.{no-children}
+use Rattle.rules.specs.Table.{InUse, at, put, nextPair, stolenIn}
+use Rattle.rules.proofs.Granted.{Asked, in-use, Owning, Advancing, Marking, Answers, refuses, owns, advances, marks, expands, looks}
+use Rattle.rules.proofs.Expand.{split-slots, stays}
 use Rattle.rules.proofs.Nodes.{at-same, at-other}
-use Rattle.rules.proofs.Record.{WF}
-use Rattle.rules.proofs.Split.{split-here, split-other}
+use Rattle.rules.proofs.Record.{WF, in-table, no-children}
+use Rattle.rules.proofs.Spare.{spare}
 use Rattle.rules.proofs.States.{available-is, owned-is, completed-is, stolen-is, expanded-is, Stolen}
-use Rattle.rules.proofs.Expand.{pair-fits}
 
 -- a state after a request of a kind, from the state before
 abbrev pub Leads : Node → ℕ → Node → Type 0
@@ -44,7 +42,7 @@ module _ (l : Ledger) (w : WF l) (r : Request) (asked : Asked (l .teams) (l .use
   own-leads : Owning x → Leads x 1 (owned x (natOf (r .team)))
   unfolding leads isIn
   own-leads o =
-      let plain = ap negative (w .alone n (asked .node .low) (asked .node .high) .unowned (o .nobody)) in
+      let plain = ap negative (w .alone n (in-use l r asked) .unowned (o .nobody)) in
       let y = owned x (natOf (r .team)) in
       leads-by
       x
@@ -89,13 +87,13 @@ module _ (l : Ledger) (w : WF l) (r : Request) (asked : Asked (l .teams) (l .use
       OWNED
       STOLEN
       (was-owned (m .here .plain) (m .here .going) (m .somebody))
-      (stolen-is y (record { mark = refl; leaf = no-children l w r asked (m .here .plain) }))
+      (stolen-is y (record { mark = refl; leaf = no-children l w n (in-use l r asked) (m .here .plain) }))
       refl
 
-  expand-leads : Stolen x → Leads x 4 (parted x (l .used + 1))
+  expand-leads : Stolen x → Leads x 4 (parted x (nextPair l))
   unfolding leads isIn
   expand-leads e =
-      let y = parted x (l .used + 1) in
+      let y = parted x (nextPair l) in
       leads-by
       x
       y
@@ -103,14 +101,11 @@ module _ (l : Ledger) (w : WF l) (r : Request) (asked : Asked (l .teams) (l .use
       STOLEN
       EXPANDED
       (stolen-is x (record { mark = e .mark; leaf = e .leaf }))
-      (expanded-is y (record { mark = e .mark; parent = omega arith }))
+      (expanded-is y (record { mark = e .mark; parent = omega (arith, spare l w .past) }))
       refl
 
-  pub fits : nodeIn r ≤ length (l .nodes)
-  fits = omega (arith, asked .node .high, w .used-room, w .room-high, w .slots)
-
   stored : (y : Node) (k : ℕ) → natOf (r .kind) ≡ k → Leads x k y → Leads x (natOf (r .kind)) (at (put l n y) n)
-  stored y k e h = rw (e, at-same l n y (asked .node .low) fits) h
+  stored y k e h = rw (e, at-same l n y (asked .node .low) (in-table l w n (in-use l r asked))) h
 
 -- ---- any request
 
@@ -125,19 +120,18 @@ moves {l} {r} w (marks k q f) =
 moves {l} {r} w (expands k q f) =
     inr
     (rw
-    (k, split-here l (nodeIn r) _ (leftPart (at l (nodeIn r))) (rightPart (at l (nodeIn r))) (q .node .low) (q .node .high) (pair-fits l w (nodeIn r) (q .node .low) (q .node .high) f))
+    (k, split-slots l w (nodeIn r) (in-use l r q) f .here)
     (expand-leads l w r q f))
 moves w (looks k q) = inl refl
 
 pub others : {l : Ledger} {r : Request} {a : Answered} → WF l → Answers l r a
-    → (m : ℕ) → 1 ≤ m → m ≤ l .used → m ≢ nodeIn r → at (a .ledger) m ≡ at l m
-others w (refuses h) m p u ne = refl
-others {l} {r} w (owns k q f) m p u ne = at-other l (nodeIn r) _ (q .node .low) m p ne
-others {l} {r} w (advances k q f) m p u ne = at-other l (nodeIn r) _ (q .node .low) m p ne
-others {l} {r} w (marks k q f) m p u ne = at-other l (nodeIn r) _ (q .node .low) m p ne
-others {l} {r} w (expands k q f) m p u ne =
-    split-other l (nodeIn r) _ _ _ (q .node .low) (q .node .high) (pair-fits l w (nodeIn r) (q .node .low) (q .node .high) f) m p ne (omega arith) (omega arith)
-others w (looks k q) m p u ne = refl
+    → (m : ℕ) → InUse l m → m ≢ nodeIn r → at (a .ledger) m ≡ at l m
+others w (refuses h) m u ne = refl
+others {l} {r} w (owns k q f) m u ne = at-other l (nodeIn r) _ (q .node .low) m (u .low) ne
+others {l} {r} w (advances k q f) m u ne = at-other l (nodeIn r) _ (q .node .low) m (u .low) ne
+others {l} {r} w (marks k q f) m u ne = at-other l (nodeIn r) _ (q .node .low) m (u .low) ne
+others {l} {r} w (expands k q f) m u ne = stays l w (nodeIn r) (in-use l r q) f m u ne
+others w (looks k q) m u ne = refl
 
 -- no state is one of none
 pub none : (l k : Ledger) (s : ℕ) (states : List ℕ) → (k ≡ l) ⊎ (isIn s states ≡ true) → states ≡ [] → k ≡ l

@@ -1,15 +1,14 @@
 -- Reading a node of a changed ledger.
-use mathlib.Core.Path.{_≡_, refl, ap}
+use mathlib.Core.Path.{_≡_, refl}
 use mathlib.Core.Logic.{_≢_}
-use mathlib.Core.List.{List}
 use Prim.Native.Nat.{ℕ, _+_, _-_, _≤_, _<_}
 use native.Mathlib.Omega.{arith}
 use lib.ListN.{length, getD, length-set, List·getD-eq-default}
-use lib.Seq.{getD-set-same, getD-set-other, set-getD}
+use lib.Seq.{getD-set-same, getD-set-other}
 use Rattle.rules.specs.declared.Node.{Node}
 use Rattle.rules.specs.declared.Ledger.{Ledger}
 use Rattle.rules.specs.Nodes.{blank}
-use Rattle.rules.specs.Table.{at, put, grown}
+use Rattle.rules.specs.Table.{InUse, at, put, grown}
 
 -- the node in slot i, as a loop over the slots reads it
 pub at-next : (l : Ledger) (i : ℕ) → at l (i + 1) ≡ getD (l .nodes) i blank
@@ -29,25 +28,19 @@ pub at-out : (l : Ledger) (n : ℕ) → length (l .nodes) < n → at l n ≡ bla
 unfolding at
 at-out l n h = List·getD-eq-default (l .nodes) blank (omega arith)
 
+-- the same nodes are in use
+pub put-used : (l : Ledger) (n : ℕ) (x : Node) {m : ℕ} → InUse l m → InUse (put l n x) m
+unfolding put
+put-used l n x u = record { low = u .low; high = u .high }
+
+pub put-was : (l : Ledger) (n : ℕ) (x : Node) {m : ℕ} → InUse (put l n x) m → InUse l m
+unfolding put
+put-was l n x u = record { low = u .low; high = u .high }
+
 pub put-length : (l : Ledger) (n : ℕ) (x : Node) → length (put l n x .nodes) ≡ length (l .nodes)
 unfolding put
 put-length l n x = length-set (l .nodes) (n - 1) x
 
--- storing what stands there changes nothing
-pub put-at : (l : Ledger) (n : ℕ) → put l n (at l n) ≡ l
-unfolding at put
-put-at l n =
-    ap
-    (λ (ns : List Node). record {
-      start = l .start;
-      until = l .until;
-      teams = l .teams;
-      room = l .room;
-      used = l .used;
-      nodes = ns;
-    })
-    (set-getD (l .nodes) (n - 1) blank)
-
-pub at-grown : (l : Ledger) (m : ℕ) → at (grown l) m ≡ at l m
+pub at-grown : (l : Ledger) (c m : ℕ) → at (grown l c) m ≡ at l m
 unfolding at grown
-at-grown l m = refl
+at-grown l c m = refl

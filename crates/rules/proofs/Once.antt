@@ -17,24 +17,24 @@ use Rattle.rules.specs.declared.Opening.{Opening}
 use Rattle.rules.specs.declared.Request.{Request}
 use Rattle.rules.specs.declared.Answer.{Answer}
 use Rattle.rules.specs.declared.Answered.{Answered}
+use Rattle.rules.specs.Limits.{otherSlots}
 use Rattle.rules.specs.Listing.{Batch, afterAll, isClaim, batchOf, batches, timesIn}
 use Rattle.rules.specs.Nodes.{blank, fresh, owned, moved, parted, childless, positionOf, middle, leftPart, rightPart}
 use Rattle.rules.specs.Opening.{opened, ledgerOf}
 use Rattle.rules.specs.Requests.{batchEnd, nodeIn, requested}
 use Rattle.rules.specs.Sheet40.{Inside, Gives, NeverGrantedTwice, GivenOnceAtMost}
-use Rattle.rules.specs.Table.{at, put, sumBy}
-use Rattle.rules.proofs.Granted.{Asked, Advancing, after as splitAt, Answers, refuses, owns, advances, marks, expands, looks, answers}
-use Rattle.rules.proofs.Keeps.{no-children, requested-wf}
-use Rattle.rules.proofs.Moves.{fits}
+use Rattle.rules.specs.Table.{InUse, at, put, nextPair, sumBy}
+use Rattle.rules.proofs.Granted.{Asked, in-use, Advancing, Answers, refuses, owns, advances, marks, expands, looks, answers}
+use Rattle.rules.proofs.Keeps.{requested-wf}
 use Rattle.rules.proofs.Onward.{requested-later, run-later}
 use Rattle.rules.proofs.Opens.{opened-wf}
-use Rattle.rules.proofs.Record.{WF}
+use Rattle.rules.proofs.Record.{WF, in-table, no-children}
 use Rattle.rules.proofs.Sheets.{begun}
 use Rattle.rules.proofs.Claims.{Claimed, is-claimed}
-use Rattle.rules.proofs.Split.{split-sum}
+use Rattle.rules.proofs.Spare.{spare}
 use Rattle.rules.proofs.Sums.{sumBy-put}
 use Rattle.rules.proofs.States.{Stolen}
-use Rattle.rules.proofs.Expand.{pair-fits}
+use Rattle.rules.proofs.Expand.{next, sums}
 
 -- the sheet s is unclaimed in the node x
 record Free (s : ℕ) (x : Node) : Type 0 where
@@ -110,9 +110,12 @@ module _ (s : ℕ) (l : Ledger) (r : Request) (w : WF l) (asked : Asked (l .team
   abbrev y : Node
   y = moved x (pos (batchEnd x r))
 
+  used : InUse l n
+  used = in-use l r asked
+
   stored : (z : Node) → freeAt s (put l n z) + freeIn s x ≡ freeAt s l + freeIn s z
   unfolding freeAt
-  stored z = sumBy-put (freeIn s) l n z (asked .node .low) (fits l w r asked)
+  stored z = sumBy-put (freeIn s) l n z (asked .node .low) (in-table l w n used)
 
   -- an own or a mark moves nothing
   kept : (z : Node) → freeIn s z ≡ freeIn s x → freeAt s (put l n z) ≤ freeAt s l
@@ -126,8 +129,8 @@ module _ (s : ℕ) (l : Ledger) (r : Request) (w : WF l) (asked : Asked (l .team
       y
       blank
       (λ g. record {
-        leaf = no-children l w r asked (f .here .plain);
-        low = omega (arith, g .low, f .end, w .alone n (asked .node .low) (asked .node .high) .high);
+        leaf = no-children l w n used (f .here .plain);
+        low = omega (arith, g .low, f .end, w .alone n used .high);
         high = g .high;
       })
       (λ g. absurd (free-blank s g))
@@ -141,15 +144,15 @@ module _ (s : ℕ) (l : Ledger) (r : Request) (w : WF l) (asked : Asked (l .team
       x
       (leftPart x)
       (rightPart x)
-      (λ g. record { leaf = f .leaf; low = g .low; high = omega (arith, g .high, w .alone n (asked .node .low) (asked .node .high) .high) })
+      (λ g. record { leaf = f .leaf; low = g .low; high = omega (arith, g .high, w .alone n used .high) })
       (λ g. record { leaf = f .leaf; low = omega (arith, g .low); high = g .high })
       (λ g h. omega (arith, g .high, h .low))
 
-  split-free : Stolen x → freeAt s (splitAt l n (parted x (l .used + 1)) (leftPart x) (rightPart x)) ≤ freeAt s l
+  split-free : (f : Stolen x) → freeAt s (next l w n used f) ≤ freeAt s l
   unfolding freeAt
   split-free f =
       omega
-      (arith, halves f, is-none s (parted x (l .used + 1)) (λ g. let e = g .leaf in omega arith), split-sum l n (parted x (l .used + 1)) (leftPart x) (rightPart x) (asked .node .low) (asked .node .high) (pair-fits l w n (asked .node .low) (asked .node .high) f) (freeIn s))
+      (arith, halves f, is-none s (parted x (nextPair l)) (λ g. let e = g .leaf in omega (arith, spare l w .past)), sums l w n used f (freeIn s) (is-none s blank (free-blank s)))
 
 answers-free : {l : Ledger} {r : Request} {a : Answered} (s : ℕ) → WF l → Answers l r a → freeAt s (a .ledger) ≤ freeAt s l
 unfolding freeIn
@@ -192,7 +195,7 @@ module _ (s : ℕ) (l : Ledger) (r : Request) (w : WF l) (g : Gives l r s) where
   was =
       let i = inside in
       record {
-        leaf = no-children l w r (c .asked) (c .facts .here .plain);
+        leaf = no-children l w (nodeIn r) (in-use l r (c .asked)) (c .facts .here .plain);
         low = i .low;
         high = omega (arith, c .facts .end);
       }
@@ -221,7 +224,7 @@ at-most-one s k x = go (freeIn s x) (counts s x)
 
 begun-free : (s : ℕ) (o : Opening) → freeAt s (ledgerOf o) ≤ 1
 unfolding freeAt opened
-begun-free s o = at-most-one s 1022 (fresh (natOf (o .start)) (natOf (o .until)))
+begun-free s o = at-most-one s otherSlots (fresh (natOf (o .start)) (natOf (o .until)))
 
 pub after-append : (l : Ledger) (rs qs : List Request) → afterAll l (rs ++ qs) ≡ afterAll (afterAll l rs) qs
 unfolding afterAll

@@ -1,5 +1,5 @@
 -- An opening within its limits makes a well-formed ledger.
-use mathlib.Core.Path.{_≡_, refl, ap, _∙_}
+use mathlib.Core.Path.{_≡_, refl}
 use mathlib.Core.Bool.{true}
 use mathlib.Core.List.{_∷_}
 use Prim.Native.Nat.{ℕ, zero, suc, _+_, _-_, _*_, _≤_, _<_}
@@ -9,14 +9,14 @@ use Rattle.numbers.specs.Fields.{natOf}
 use Rattle.numbers.proofs.Laws.{Within, within-true}
 use Rattle.rules.specs.declared.Ledger.{Ledger}
 use Rattle.rules.specs.declared.Opening.{Opening}
-use Rattle.rules.specs.Limits.{opens, maxUntil, maxTeams, maxCap, maxNodes}
+use Rattle.rules.specs.Limits.{opens, maxUntil, maxTeams, maxCap, maxNodes, otherSlots}
 use Rattle.rules.specs.Nodes.{blank, fresh}
 use Rattle.rules.specs.Opening.{opened, ledgerOf}
 use Rattle.rules.specs.States.{stolenOf}
-use Rattle.rules.specs.Table.{at, sumBy, stolenIn}
+use Rattle.rules.specs.Table.{InUse, at, sumBy, stolenIn}
 use Rattle.rules.proofs.Expand.{alone-fresh}
 use Rattle.rules.proofs.Facts.{both}
-use Rattle.rules.proofs.Record.{WF}
+use Rattle.rules.proofs.Record.{Limited, WF}
 use Rattle.rules.proofs.States.{fresh-none, blank-none}
 
 pub all-blank : (k i : ℕ) → getD (replicate k blank) i blank ≡ blank
@@ -34,8 +34,7 @@ abbrev openedWith : ℕ → ℕ → ℕ → ℕ → ℕ → Ledger
 openedWith k a b teams room =
     record { start = a; until = b; teams = teams; room = room; used = 1; nodes = fresh a b ∷ replicate k blank }
 
-module _ (k a b teams room : ℕ) (slots : k ≡ 1022) (ordered : a ≤ b) (top : b ≤ 2147483647)
-    (tl : 1 ≤ teams) (th : teams ≤ 32) (rl : 1 ≤ room) (rh : room ≤ 1023) where
+module _ (k a b teams room : ℕ) (slots : k + 1 ≡ maxNodes) (limits : Limited a b teams room) where
   abbrev l : Ledger
   l = openedWith k a b teams room
 
@@ -51,32 +50,34 @@ module _ (k a b teams room : ℕ) (slots : k ≡ 1022) (ordered : a ≤ b) (top 
 
   light : 1 + 2 * stolenIn l ≤ room
   unfolding stolenIn sumBy
-  light = omega (arith, fresh-none a b, none-stolen k)
+  light = omega (arith, limits .room-low, fresh-none a b, none-stolen k)
 
   with-wf : WF l
   with-wf =
       record {
-        ordered = ordered;
-        until-limit = top;
-        teams-low = tl;
-        teams-high = th;
-        room-low = rl;
-        room-high = rh;
-        slots = ap suc (length-replicate k blank ∙ slots);
+        limits = limits;
+        slots = omega (arith, length-replicate k blank, slots);
         odd = refl;
-        used-room = rl;
+        used-room = limits .room-low;
         root-start = rw root-is;
         root-until = rw root-is;
-        alone = λ n p q. let e : n ≡ 1 = omega arith in rw (e, root-is) (alone-fresh teams a b ordered);
-        pair = λ n p q h. absurd (let e : n ≡ 1 = omega arith in let z : 0 < 0 = rw (e, root-is) at h in omega arith);
+        alone = λ n u. rw (only n u, root-is) (alone-fresh teams a b (limits .ordered));
+        pair = λ n u h. absurd (no-children-of n u h);
+        later = λ n u h. absurd (no-children-of n u h);
         parent = λ c p q e. absurd (omega arith);
         loaded = light;
         blank = blank-is;
       }
+    where
+      only : (n : ℕ) → InUse l n → n ≡ 1
+      only n u = omega (arith, u .low, u .high)
 
-pub opened-wf-of : (a b teams room : ℕ) → a ≤ b → b ≤ maxUntil → 1 ≤ teams → teams ≤ maxTeams → 1 ≤ room → room ≤ maxNodes → WF (opened a b teams room)
+      no-children-of : (n : ℕ) → InUse l n → 0 < at l n .left → ⊥
+      no-children-of n u h = let z : 0 < 0 = rw (only n u, root-is) at h in omega arith
+
+pub opened-wf-of : (a b teams room : ℕ) → Limited a b teams room → WF (opened a b teams room)
 unfolding opened
-opened-wf-of a b teams room ordered top tl th rl rh = with-wf 1022 a b teams room refl ordered top tl th rl rh
+opened-wf-of a b teams room limits = with-wf otherSlots a b teams room refl limits
 
 -- the five numbers of an opening within its limits
 pub record Opens (o : Opening) : Type 0 where
@@ -106,12 +107,14 @@ opened-wf o e =
     (natOf (o .until))
     (natOf (o .teams))
     (natOf (o .nodes))
-    (f .start .high)
-    (f .until .high)
-    (f .teams .low)
-    (f .teams .high)
-    (f .nodes .low)
-    (f .nodes .high)
+    (record {
+      ordered = f .start .high;
+      until-limit = f .until .high;
+      teams-low = f .teams .low;
+      teams-high = f .teams .high;
+      room-low = f .nodes .low;
+      room-high = f .nodes .high;
+    })
 
 pub opened-root : (a b teams room : ℕ) → at (opened a b teams room) 1 ≡ fresh a b
 unfolding opened at

@@ -1,18 +1,18 @@
 -- Well formed, as a record of plain facts, and that the two are the same.
 use Prim.Native.Nat.{ℕ, _+_, _*_, _%_, _<_, _≤_, zero-le}
-use mathlib.Core.Path.{_≡_}
+use mathlib.Core.Path.{_≡_, sym, _∙_}
 use mathlib.Core.Logic.{_↔_}
-use mathlib.Core.Bool.{true, false}
+use mathlib.Core.Bool.{true, false, true≢false}
 use native.Mathlib.Omega.{arith}
-use native.Mathlib.Decide.{decLe}
+use native.Mathlib.Decide.{decLe, decLt}
 use lib.Dec.{lit≤}
 use lib.IntN.{ℤ, pos}
 use lib.ListN.{length}
 use Rattle.rules.specs.declared.Node.{Node}
 use Rattle.rules.specs.declared.Ledger.{Ledger}
-use Rattle.rules.specs.Limits.{opens}
+use Rattle.rules.specs.Limits.{opens, maxUntil, maxTeams, maxNodes}
 use Rattle.rules.specs.Nodes.{blank, marked, unowned, positionOf, middle}
-use Rattle.rules.specs.Table.{at, sumBy, stolenIn}
+use Rattle.rules.specs.Table.{InUse, at, sumBy, stolenIn}
 use Rattle.rules.specs.WellFormed.{wellFormed, nodeRule, aloneRule, childRule, pairRule, unusedRule, isBlank, leftIs}
 use Rattle.rules.proofs.Facts.{facts, both, either, leb-f}
 use Rattle.rules.proofs.Nodes.{at-out}
@@ -38,11 +38,10 @@ alone-back teams x h = simp facts (search)
 pub alone-t : (teams : ℕ) (x : Node) → aloneRule teams x ≡ true ↔ Alone teams x
 alone-t teams x = (alone-out teams x, alone-back teams x)
 
--- node n is x, and has children, among the nodes in use
-pub record Pair (node : ℕ → Node) (used n : ℕ) (x : Node) : Type 0 where
+-- the node x has children, among the nodes in use
+pub record Pair (node : ℕ → Node) (used : ℕ) (x : Node) : Type 0 where
   pub mark : marked x ≡ true
   pub even : x .left % 2 ≡ 0
-  pub later : n < x .left
   pub inside : x .left < used
   pub left-start : node (x .left) .start ≡ positionOf x
   pub left-until : node (x .left) .until ≡ middle x
@@ -50,15 +49,20 @@ pub record Pair (node : ℕ → Node) (used n : ℕ) (x : Node) : Type 0 where
   pub right-until : node (x .left + 1) .until ≡ x .until
 
 module _ (node : ℕ → Node) (used n : ℕ) (x : Node) where
-  child-out : childRule n used x (node (x .left)) (node (x .left + 1)) ≡ true → 0 < x .left → Pair node used n x
-  unfolding childRule
-  child-out e some = let h = (simp facts at e) (omega arith) in search
+  -- node n is x: its children are a pair, of greater numbers
+  pub record Children : Type 0 where
+    pub pair : Pair node used x
+    pub later : n < x .left
 
-  child-back : (0 < x .left → Pair node used n x) → childRule n used x (node (x .left)) (node (x .left + 1)) ≡ true
+  child-out : childRule n used x (node (x .left)) (node (x .left + 1)) ≡ true → 0 < x .left → Children
   unfolding childRule
-  child-back h = simp facts (λ some. let p = h (omega arith) in search)
+  child-out e some = let h = (simp facts at e) (omega arith) in record { pair = search; later = search }
 
-  pub child-t : childRule n used x (node (x .left)) (node (x .left + 1)) ≡ true ↔ (0 < x .left → Pair node used n x)
+  child-back : (0 < x .left → Children) → childRule n used x (node (x .left)) (node (x .left + 1)) ≡ true
+  unfolding childRule
+  child-back h = simp facts (λ some. let c = h (omega arith) in let p = c .pair in search)
+
+  pub child-t : childRule n used x (node (x .left)) (node (x .left + 1)) ≡ true ↔ (0 < x .left → Children)
   child-t = (child-out, child-back)
 
 blank-made : (a b : ℕ) (p : ℤ) (o c : ℕ) → a ≡ 0 → b ≡ 0 → p ≡ pos 0 → o ≡ 0 → c ≡ 0
@@ -76,34 +80,42 @@ blank-back x e = rw e
 pub blank-t : (x : Node) → isBlank x ≡ true ↔ (x ≡ blank)
 blank-t x = (blank-out x, blank-back x)
 
+-- "opening limits hold"
+pub record Limited (start until teams room : ℕ) : Type 0 where
+  pub ordered : start ≤ until
+  pub until-limit : until ≤ maxUntil
+  pub teams-low : 1 ≤ teams
+  pub teams-high : teams ≤ maxTeams
+  pub room-low : 1 ≤ room
+  pub room-high : room ≤ maxNodes
+
 pub record WF (l : Ledger) : Type 0 where
-  pub ordered : l .start ≤ l .until
-  pub until-limit : l .until ≤ 2147483647
-  pub teams-low : 1 ≤ l .teams
-  pub teams-high : l .teams ≤ 32
-  pub room-low : 1 ≤ l .room
-  pub room-high : l .room ≤ 1023
-  pub slots : length (l .nodes) ≡ 1023
+  pub limits : Limited (l .start) (l .until) (l .teams) (l .room)
+  pub slots : length (l .nodes) ≡ maxNodes
   pub odd : l .used % 2 ≡ 1
   pub used-room : l .used ≤ l .room
   pub root-start : at l 1 .start ≡ l .start
   pub root-until : at l 1 .until ≡ l .until
-  pub alone : (n : ℕ) → 1 ≤ n → n ≤ l .used → Alone (l .teams) (at l n)
-  pub pair : (n : ℕ) → 1 ≤ n → n ≤ l .used → 0 < at l n .left → Pair (at l) (l .used) n (at l n)
+  pub alone : (n : ℕ) → InUse l n → Alone (l .teams) (at l n)
+  pub pair : (n : ℕ) → InUse l n → 0 < at l n .left → Pair (at l) (l .used) (at l n)
+  pub later : (n : ℕ) → InUse l n → 0 < at l n .left → n < at l n .left
   pub parent : (c : ℕ) → 0 < c → c < l .used → c % 2 ≡ 0 → sumBy (leftIs c) (l .nodes) ≡ 1
   pub loaded : l .used + 2 * stolenIn l ≤ l .room
   pub blank : (n : ℕ) → l .used < n → at l n ≡ blank
 
 module _ (l : Ledger) where
-  node-out : (n : ℕ) → nodeRule l n ≡ true → Alone (l .teams) (at l n) × (0 < at l n .left → Pair (at l) (l .used) n (at l n))
+  abbrev NodeGood : ℕ → Type 0
+  NodeGood n = Alone (l .teams) (at l n) × (0 < at l n .left → Children (at l) (l .used) n (at l n))
+
+  node-out : (n : ℕ) → nodeRule l n ≡ true → NodeGood n
   unfolding nodeRule
   node-out n e = simp (both, alone-t, child-t (at l) (l .used) n (at l n)) at e
 
-  node-back : (n : ℕ) → Alone (l .teams) (at l n) × (0 < at l n .left → Pair (at l) (l .used) n (at l n)) → nodeRule l n ≡ true
+  node-back : (n : ℕ) → NodeGood n → nodeRule l n ≡ true
   unfolding nodeRule
   node-back n h = simp (both, alone-t, child-t (at l) (l .used) n (at l n)) h
 
-  node-t : (n : ℕ) → nodeRule l n ≡ true ↔ (Alone (l .teams) (at l n) × (0 < at l n .left → Pair (at l) (l .used) n (at l n)))
+  node-t : (n : ℕ) → nodeRule l n ≡ true ↔ NodeGood n
   node-t n = (node-out n, node-back n)
 
   pair-out : (c : ℕ) → pairRule l c ≡ true → c % 2 ≡ 0 → sumBy (leftIs c) (l .nodes) ≡ 1
@@ -130,70 +142,94 @@ module _ (l : Ledger) where
 
 -- the same facts with the ranges that the tests go over
 record Tested (l : Ledger) : Type 0 where
-  ordered : l .start ≤ l .until
-  until-limit : l .until ≤ 2147483647
-  teams-low : 1 ≤ l .teams
-  teams-high : l .teams ≤ 32
-  room-low : 1 ≤ l .room
-  room-high : l .room ≤ 1023
+  limits : Limited (l .start) (l .until) (l .teams) (l .room)
   odd : l .used % 2 ≡ 1
   used-room : l .used ≤ l .room
   root-start : at l 1 .start ≡ l .start
   root-until : at l 1 .until ≡ l .until
-  node : (n : ℕ) → 1 ≤ n → n ≤ l .used → Alone (l .teams) (at l n) × (0 < at l n .left → Pair (at l) (l .used) n (at l n))
+  node : (n : ℕ) → 1 ≤ n → n ≤ l .used → NodeGood l n
   parent : (c : ℕ) → 1 ≤ c → c ≤ l .used → c % 2 ≡ 0 → sumBy (leftIs c) (l .nodes) ≡ 1
   loaded : l .used + 2 * stolenIn l ≤ l .room
-  unused : (n : ℕ) → 1 ≤ n → n ≤ 1023 → l .used < n → at l n ≡ blank
+  unused : (n : ℕ) → 1 ≤ n → n ≤ maxNodes → l .used < n → at l n ≡ blank
 
 tested : (l : Ledger) → wellFormed l ≡ true → Tested l
 unfolding wellFormed opens
-tested l e = let h = simp (facts, node-t l, pair-t l, unused-t l) at e in search
+tested l e =
+    let h = simp (facts, node-t l, pair-t l, unused-t l) at e in
+    let limits : Limited (l .start) (l .until) (l .teams) (l .room) = search in
+    search
 
 tested-back : (l : Ledger) → Tested l → wellFormed l ≡ true
 unfolding wellFormed opens
-tested-back l h = simp (facts, node-t l, pair-t l, unused-t l) (search (zero-le, lit≤))
+tested-back l h =
+    let k = h .limits in
+    simp (facts, node-t l, pair-t l, unused-t l) (search (zero-le, lit≤))
 
-pub rules : (l : Ledger) → length (l .nodes) ≡ 1023 → wellFormed l ≡ true → WF l
+pub rules : (l : Ledger) → length (l .nodes) ≡ maxNodes → wellFormed l ≡ true → WF l
 rules l slots e =
     let t = tested l e in
     record {
-      ordered = t .ordered;
-      until-limit = t .until-limit;
-      teams-low = t .teams-low;
-      teams-high = t .teams-high;
-      room-low = t .room-low;
-      room-high = t .room-high;
+      limits = t .limits;
       slots = slots;
       odd = t .odd;
       used-room = t .used-room;
       root-start = t .root-start;
       root-until = t .root-until;
-      alone = λ n p q. t .node n p q .0;
-      pair = λ n p q. t .node n p q .1;
+      alone = λ n u. t .node n (u .low) (u .high) .0;
+      pair = λ n u h. t .node n (u .low) (u .high) .1 h .pair;
+      later = λ n u h. t .node n (u .low) (u .high) .1 h .later;
       parent = λ c p q. t .parent c p (omega arith);
       loaded = t .loaded;
-      blank = λ n p. unused n p (decLe n 1023);
+      blank = λ n p. unused n p (decLe n maxNodes);
     }
   where
-    unused : (n : ℕ) → l .used < n → Dec (n ≤ 1023) → at l n ≡ blank
+    unused : (n : ℕ) → l .used < n → Dec (n ≤ maxNodes) → at l n ≡ blank
     unused n p (yes h) = tested l e .unused n (omega arith) h p
     unused n p (no h) = at-out l n (omega arith)
 
 pub rules-back : (l : Ledger) → WF l → wellFormed l ≡ true
 rules-back l w =
     tested-back l (record {
-      ordered = w .ordered;
-      until-limit = w .until-limit;
-      teams-low = w .teams-low;
-      teams-high = w .teams-high;
-      room-low = w .room-low;
-      room-high = w .room-high;
+      limits = w .limits;
       odd = w .odd;
       used-room = w .used-room;
       root-start = w .root-start;
       root-until = w .root-until;
-      node = λ n p q. (w .alone n p q, w .pair n p q);
+      node = λ n p q. good n (record { low = p; high = q });
       parent = λ c p q e. w .parent c p (omega (arith, w .odd)) e;
       loaded = w .loaded;
       unused = λ n p q h. w .blank n h;
     })
+  where
+    good : (n : ℕ) → InUse l n → NodeGood l n
+    good n u = (w .alone n u, λ h. record { pair = w .pair n u h; later = w .later n u h })
+
+-- ---- what follows for every node in use
+
+module _ (l : Ledger) (w : WF l) where
+  pub used-high : l .used ≤ maxNodes
+  used-high = omega (arith, w .used-room, w .limits .room-high)
+
+  pub root-used : InUse l 1
+  root-used = record { low = omega arith; high = omega (arith, w .odd) }
+
+  module _ (n : ℕ) (u : InUse l n) where
+    -- its slot is in the table
+    pub in-table : n ≤ length (l .nodes)
+    in-table = omega (arith, u .high, used-high, w .slots)
+
+    -- no node has children before its mark
+    pub no-children : marked (at l n) ≡ false → at l n .left ≡ 0
+    no-children plain = go (decLt 0 (at l n .left))
+      where
+        go : Dec (0 < at l n .left) → at l n .left ≡ 0
+        go (yes h) = absurd (true≢false (sym (w .pair n u h .mark) ∙ plain))
+        go (no h) = omega arith
+
+    -- and its children are in use
+    module _ (some : 0 < at l n .left) where
+      pub left-used : InUse l (at l n .left)
+      left-used = record { low = some; high = omega (arith, w .pair n u some .inside) }
+
+      pub right-used : InUse l (at l n .left + 1)
+      right-used = record { low = omega arith; high = omega (arith, w .pair n u some .inside) }

@@ -3,7 +3,7 @@ use mathlib.Core.Path.{_≡_, refl, sym, ap, _∙_}
 use mathlib.Core.Logic.{_⊎_, inl, inr}
 use mathlib.Core.Bool.{true≢false}
 use mathlib.Core.List.{List, _∷_}
-use Prim.Native.Nat.{ℕ, _+_, _≤_, _<_}
+use Prim.Native.Nat.{ℕ, _+_, _<_}
 use native.Mathlib.Omega.{arith}
 use native.Mathlib.Decide.{decLt}
 use lib.IntN.{pos, negsuc}
@@ -19,16 +19,14 @@ use Rattle.rules.specs.Listing.{afterAll}
 use Rattle.rules.specs.Nodes.{moved, parted, positionOf, middle, leftPart, rightPart}
 use Rattle.rules.specs.Requests.{batchEnd, nodeIn, requested}
 use Rattle.rules.specs.Sheet40.{ClaimGranted, MarkGranted, SplitGranted, InBatch, InNode, ClaimStands, MarkReadBack, MarkIsFinal, SharedOut, SplitStartsAtMark, SamePlace, ToClaimer, ToStealer, HerAnswer}
-use Rattle.rules.specs.Table.{at, put, grown}
+use Rattle.rules.specs.Table.{InUse, at, nextPair}
 use Rattle.rules.proofs.Batches.{sheets-join}
-use Rattle.rules.proofs.Granted.{Asked}
-use Rattle.rules.proofs.Moves.{fits}
+use Rattle.rules.proofs.Granted.{Asked, in-use}
 use Rattle.rules.proofs.Nodes.{at-same}
 use Rattle.rules.proofs.Onward.{Onward, requested-later, run-later}
-use Rattle.rules.proofs.Record.{WF}
-use Rattle.rules.proofs.Split.{split-left, split-right}
+use Rattle.rules.proofs.Record.{WF, in-table}
 use Rattle.rules.proofs.Claims.{Claimed, Parted, is-claimed, is-marked, is-parted, granted-wf}
-use Rattle.rules.proofs.Expand.{pair-fits}
+use Rattle.rules.proofs.Expand.{Slots, split-slots}
 
 -- ---- the first step
 
@@ -46,7 +44,7 @@ mark-read-back l r slots g =
     let m = is-marked l r g in
     let h = m .facts .here in
     rw
-    (m .ledger, at-same l (nodeIn r) (moved (at l (nodeIn r)) (negsuc (positionOf (at l (nodeIn r))))) (m .asked .node .low) (fits l w r (m .asked)))
+    (m .ledger, at-same l (nodeIn r) (moved (at l (nodeIn r)) (negsuc (positionOf (at l (nodeIn r))))) (m .asked .node .low) (in-table l w (nodeIn r) (in-use l r (m .asked))))
     (record { mark = refl; back = sym (h .same ∙ h .progress-is) })
 
 -- the node that a granted request names is in use then and later, and only moves onward
@@ -55,7 +53,7 @@ module _ (l : Ledger) (r : Request) (between : List Request) (w : WF l) (asked :
   unfolding afterAll
   onward-since =
       let a = requested-later l r w in
-      run-later (requested l r .ledger) between (a .wf) .each (nodeIn r) (asked .node .low) (omega (arith, asked .node .high, a .used))
+      run-later (requested l r .ledger) between (a .wf) .each (nodeIn r) (a .used (nodeIn r) (in-use l r asked))
 
 pub mark-is-final : MarkIsFinal
 mark-is-final l mark claim between slots same g c =
@@ -72,19 +70,17 @@ unfolding leftPart rightPart middle
 split-starts-at-mark l r slots g =
     let w = granted-wf l r 4 slots g in
     let p = is-parted l r g in
-    let x = at l (nodeIn r) in
-    let low = p .asked .node .low in
-    let high = p .asked .node .high in
-    let room : l .used + 2 ≤ length (l .nodes) = pair-fits l w (nodeIn r) low high (p .facts) in
+    let u = in-use l r (p .asked) in
+    let q = split-slots l w (nodeIn r) u (p .facts) in
     rw
-    (p .ledger, p .answer, split-left l (nodeIn r) (parted x (l .used + 1)) (leftPart x) (rightPart x) low high room, split-right l (nodeIn r) (parted x (l .used + 1)) (leftPart x) (rightPart x) low high room)
+    (p .ledger, p .answer, q .left, q .right)
     (record {
       mark = p .facts .mark;
       left-start = refl;
       left-until = refl;
       right-start = refl;
       right-until = refl;
-      exactly = sheets-join _ _ _ (omega arith) (omega (arith, w .alone (nodeIn r) low high .high));
+      exactly = sheets-join _ _ _ (omega arith) (omega (arith, w .alone (nodeIn r) u .high));
     })
 
 -- the new nodes are in use, and whatever follows their ranges stay: one of the two has the position
@@ -95,14 +91,18 @@ module _ (l : Ledger) (r : Request) (later : List Request) (w : WF l) (g : Split
   abbrev next : Ledger
   next = afterAll l (r ∷ later)
 
-  left-is : left ≡ l .used + 1
-  left-is = ap (λ (a : Answer). a .left) (is-parted l r g .answer)
+  p : Parted l r (requested l r)
+  p = is-parted l r g
 
-  new-onward : (m : ℕ) → 1 ≤ m → m ≤ left + 1 → Onward (at (requested l r .ledger) m) (at next m)
-  unfolding afterAll grown put
-  new-onward m low high =
-      let h : m ≤ requested l r .ledger .used = rw (is-parted l r g .ledger) (omega (arith, left-is)) in
-      run-later (requested l r .ledger) later (requested-later l r w .wf) .each m low h
+  left-is : left ≡ nextPair l
+  left-is = ap (λ (a : Answer). a .left) (p .answer)
+
+  new : Slots l (requested l r .ledger) (nodeIn r) left (parted (at l (nodeIn r)) left) (leftPart (at l (nodeIn r))) (rightPart (at l (nodeIn r)))
+  new = rw (p .ledger, left-is) (split-slots l w (nodeIn r) (in-use l r (p .asked)) (p .facts))
+
+  new-onward : (m : ℕ) → InUse (requested l r .ledger) m → Onward (at (requested l r .ledger) m) (at next m)
+  unfolding afterAll
+  new-onward = run-later (requested l r .ledger) later (requested-later l r w .wf) .each
 
   position-in-half : (s : ℕ) → s ≡ positionOf (at l (nodeIn r))
       → InNode s (at next left) ⊎ InNode s (at next (left + 1))
@@ -111,23 +111,17 @@ module _ (l : Ledger) (r : Request) (later : List Request) (w : WF l) (g : Split
       x : Node
       x = at l (nodeIn r)
 
-      p : Parted l r (requested l r)
-      p = is-parted l r g
-
-      some : 1 ≤ left
-      some = omega (arith, left-is)
-
       o : SharedOut x (at (requested l r .ledger) left) (at (requested l r .ledger) (left + 1))
       o = split-starts-at-mark l r (w .slots) g
 
       a : Onward (at (requested l r .ledger) left) (at next left)
-      a = new-onward left some (omega arith)
+      a = new-onward left (new .left-used)
 
       b : Onward (at (requested l r .ledger) (left + 1)) (at next (left + 1))
-      b = new-onward (left + 1) (omega arith) (omega arith)
+      b = new-onward (left + 1) (new .right-used)
 
       unclaimed : s < x .until
-      unclaimed = omega (arith, w .alone (nodeIn r) (p .asked .node .low) (p .asked .node .high) .some-left (p .facts .mark))
+      unclaimed = omega (arith, w .alone (nodeIn r) (in-use l r (p .asked)) .some-left (p .facts .mark))
 
       go : Dec (s < middle x)
           → InNode s (at next left) ⊎ InNode s (at next (left + 1))
@@ -166,7 +160,7 @@ module _ (l : Ledger) (claim steal : Request) (between : List Request) (slots : 
       passed =
           let h = c .facts .here in
           omega
-          (arith, h .position-is, c .facts .end, c .facts .amount .low, h .more, w .alone n (c .asked .node .low) (c .asked .node .high) .high)
+          (arith, h .position-is, c .facts .end, c .facts .amount .low, h .more, w .alone n (in-use l claim (c .asked)) .high)
 
       inside : InBatch (natOf (claim .position)) (requested l claim .answer)
       inside = rw (c .answer) (record { low = omega (arith, c .facts .here .position-is); high = passed })
@@ -175,7 +169,7 @@ module _ (l : Ledger) (claim steal : Request) (between : List Request) (slots : 
       beyond =
           let y = moved (at l n) (pos (batchEnd (at l n) claim)) in
           let o : Onward y (at k n) =
-          rw (c .ledger, at-same l n y (c .asked .node .low) (fits l w claim (c .asked))) at (onward-since l claim between w (c .asked)) in
+          rw (c .ledger, at-same l n y (c .asked .node .low) (in-table l w n (in-use l claim (c .asked)))) at (onward-since l claim between w (c .asked)) in
           omega (arith, passed, o .forward)
 
       refused : MarkGranted k steal → ⊥

@@ -16,6 +16,7 @@ use Rattle.rules.specs.Table.{at}
 use Rattle.rules.proofs.Batches.{sheets-none}
 use Rattle.rules.proofs.Onward.{run-later}
 use Rattle.rules.proofs.Opens.{opened-wf, opened-root}
+use Rattle.rules.proofs.Record.{root-used}
 use Rattle.rules.proofs.Whole.{Whole, run-whole, root-lists, one-listing}
 
 -- ---- a new ledger
@@ -40,8 +41,8 @@ unfolding opened grantedFrom
 begun-whole o e =
     record {
       wf = opened-wf o e;
-      given = λ n p q. let f : n ≡ 1 = omega arith in rw (f, opened-root, sheets-none);
-      none = λ n p. refl;
+      given = λ n u. let f : n ≡ 1 = omega (arith, u .low, u .high) in rw (f, opened-root, sheets-none);
+      none = λ n free. refl;
     }
 
 -- ---- the whole range
@@ -55,7 +56,7 @@ module _ (o : Opening) (rs : List Request) (good : opens o ≡ true) where
 
   root-range : (at (afterAll l rs) 1 .start ≡ natOf (o .start)) × (at (afterAll l rs) 1 .until ≡ natOf (o .until))
   root-range =
-      let r = run-later l rs (opened-wf o good) .each 1 (omega arith) (unfold opened in (omega arith)) in
+      let r = run-later l rs (opened-wf o good) .each 1 (root-used l (opened-wf o good)) in
       (r .start ∙ rw opened-root, r .until ∙ rw opened-root)
 
   once : ListsOnly (afterAll l rs) (batches l rs) 1 (sheets (natOf (o .start)) (natOf (o .until)))

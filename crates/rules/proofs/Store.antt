@@ -8,11 +8,11 @@ use Rattle.rules.specs.declared.Node.{Node}
 use Rattle.rules.specs.declared.Ledger.{Ledger}
 use Rattle.rules.specs.Nodes.{middle}
 use Rattle.rules.specs.States.{stolenOf}
-use Rattle.rules.specs.Table.{at, put, stolenIn}
+use Rattle.rules.specs.Table.{InUse, at, put, stolenIn}
 use Rattle.rules.specs.WellFormed.{leftIs}
-use Rattle.rules.proofs.Nodes.{at-same, at-other, put-length}
+use Rattle.rules.proofs.Nodes.{at-same, at-other, put-was, put-length}
 use Rattle.rules.proofs.Sums.{sumBy-put}
-use Rattle.rules.proofs.Record.{WF, Alone, Pair}
+use Rattle.rules.proofs.Record.{WF, Alone, Pair, in-table}
 
 -- the same range and children, and under children the same progress
 pub record Swap (x y : Node) : Type 0 where
@@ -26,10 +26,13 @@ pub stolen-put : (l : Ledger) (n : ℕ) (y : Node) → 1 ≤ n → n ≤ length 
 unfolding stolenIn
 stolen-put l n y p q = sumBy-put stolenOf l n y p q
 
-module _ (l : Ledger) (w : WF l) (n : ℕ) (y : Node) (low : 1 ≤ n) (high : n ≤ l .used) (sw : Swap (at l n) y)
+module _ (l : Ledger) (w : WF l) (n : ℕ) (y : Node) (u : InUse l n) (sw : Swap (at l n) y)
     (alone-y : Alone (l .teams) y) (spare : l .used + 2 * (stolenIn l + stolenOf y) ≤ l .room + 2 * stolenOf (at l n)) where
+  low : 1 ≤ n
+  low = u .low
+
   fits : n ≤ length (l .nodes)
-  fits = omega (arith, w .slots, w .used-room, w .room-high)
+  fits = in-table l w n u
 
   same : at (put l n y) n ≡ y
   same = at-same l n y low fits
@@ -48,30 +51,30 @@ module _ (l : Ledger) (w : WF l) (n : ℕ) (y : Node) (low : 1 ≤ n) (high : n 
       go (yes e) = rw (e, same) (sw .until)
       go (no ne) = rw (at-other l n y low m p ne)
 
-  pair-kept : (m : ℕ) (z : Node) → Pair (at l) (l .used) m z → Pair (at (put l n y)) (l .used) m z
-  pair-kept m z p =
-      let h = p .later in
+  pair-kept : (z : Node) → 0 < z .left → Pair (at l) (l .used) z → Pair (at (put l n y)) (l .used) z
+  pair-kept z h p =
       record {
         mark = p .mark;
         even = p .even;
-        later = p .later;
         inside = p .inside;
-        left-start = kept-start (z .left) (omega arith) ∙ p .left-start;
-        left-until = kept-until (z .left) (omega arith) ∙ p .left-until;
+        left-start = kept-start (z .left) h ∙ p .left-start;
+        left-until = kept-until (z .left) h ∙ p .left-until;
         right-start = kept-start (z .left + 1) (omega arith) ∙ p .right-start;
         right-until = kept-until (z .left + 1) (omega arith) ∙ p .right-until;
       }
 
-  pair-new : 0 < y .left → Pair (at l) (l .used) n y
+  had-children : 0 < y .left → 0 < at l n .left
+  had-children h = omega (arith, sw)
+
+  pair-new : 0 < y .left → Pair (at l) (l .used) y
   unfolding middle
   pair-new h =
-      let k : 0 < at l n .left = omega (arith, sw) in
-      let p = w .pair n low high k in
+      let k = had-children h in
+      let p = w .pair n u k in
       let e = sw .still k in
       record {
         mark = rw e (p .mark);
         even = rw (sw .left) (p .even);
-        later = rw (sw .left) (p .later);
         inside = rw (sw .left) (p .inside);
         left-start = rw (sw .left, e) (p .left-start);
         left-until = rw (sw .left, e, sw .until) (p .left-until);
@@ -87,28 +90,28 @@ module _ (l : Ledger) (w : WF l) (n : ℕ) (y : Node) (low : 1 ≤ n) (high : n 
   unfolding put
   wf-store =
       record {
-        ordered = w .ordered;
-        until-limit = w .until-limit;
-        teams-low = w .teams-low;
-        teams-high = w .teams-high;
-        room-low = w .room-low;
-        room-high = w .room-high;
+        limits = w .limits;
         slots = put-length l n y ∙ w .slots;
         odd = w .odd;
         used-room = w .used-room;
         root-start = kept-start 1 (omega arith) ∙ w .root-start;
         root-until = kept-until 1 (omega arith) ∙ w .root-until;
-        alone = λ m p q. go-alone m p q (ℕ-discrete m n);
-        pair = λ m p q. go-pair m p q (ℕ-discrete m n);
+        alone = λ m v. go-alone m (put-was l n y v) (ℕ-discrete m n);
+        pair = λ m v. go-pair m (put-was l n y v) (ℕ-discrete m n);
+        later = λ m v. go-later m (put-was l n y v) (ℕ-discrete m n);
         parent = λ c p q e. omega (arith, sumBy-put (leftIs c) l n y low fits, same-left c, w .parent c p q e);
         loaded = omega (arith, stolen-put l n y low fits);
         blank = λ m p. at-other l n y low m (omega arith) (omega arith) ∙ w .blank m p;
       }
     where
-      go-alone : (m : ℕ) → 1 ≤ m → m ≤ l .used → Dec (m ≡ n) → Alone (l .teams) (at (put l n y) m)
-      go-alone m p q (yes e) = rw (e, same) alone-y
-      go-alone m p q (no ne) = rw (at-other l n y low m p ne) (w .alone m p q)
+      go-alone : (m : ℕ) → InUse l m → Dec (m ≡ n) → Alone (l .teams) (at (put l n y) m)
+      go-alone m v (yes e) = rw (e, same) alone-y
+      go-alone m v (no ne) = rw (at-other l n y low m (v .low) ne) (w .alone m v)
 
-      go-pair : (m : ℕ) → 1 ≤ m → m ≤ l .used → Dec (m ≡ n) → 0 < at (put l n y) m .left → Pair (at (put l n y)) (l .used) m (at (put l n y) m)
-      go-pair m p q (yes e) = rw (e, same) (λ h. pair-kept n y (pair-new h))
-      go-pair m p q (no ne) = rw (at-other l n y low m p ne) (λ h. pair-kept m (at l m) (w .pair m p q h))
+      go-pair : (m : ℕ) → InUse l m → Dec (m ≡ n) → 0 < at (put l n y) m .left → Pair (at (put l n y)) (l .used) (at (put l n y) m)
+      go-pair m v (yes e) = rw (e, same) (λ h. pair-kept y h (pair-new h))
+      go-pair m v (no ne) = rw (at-other l n y low m (v .low) ne) (λ h. pair-kept (at l m) h (w .pair m v h))
+
+      go-later : (m : ℕ) → InUse l m → Dec (m ≡ n) → 0 < at (put l n y) m .left → m < at (put l n y) m .left
+      go-later m v (yes e) = rw (e, same) (λ h. rw (sw .left) (w .later n u (had-children h)))
+      go-later m v (no ne) = rw (at-other l n y low m (v .low) ne) (w .later m v)

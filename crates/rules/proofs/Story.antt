@@ -4,7 +4,7 @@ use mathlib.Core.Path.{_≡_, refl, ap, _∙_}
 use mathlib.Core.Logic.{_≢_}
 use mathlib.Core.Bool.{true}
 use mathlib.Core.List.{List, [], _∷_, _++_, append-assoc, append-nil}
-use Prim.Native.Nat.{ℕ, _+_, _≤_, _<_}
+use Prim.Native.Nat.{ℕ, _+_, _<_}
 use native.Mathlib.Omega.{arith}
 use native.Mathlib.Decide.{ℕ-discrete}
 use lib.IntN.{pos, negsuc}
@@ -22,17 +22,16 @@ use Rattle.rules.specs.Nodes.{owned, moved, parted as partedNode, positi
 use Rattle.rules.specs.Story.{Story, whole, parted, claimed, split, onNode, told, toldAll, sheetsOf, read, unclaimedAt, EverySheetRead}
 use Rattle.rules.specs.Refusals.{refusal}
 use Rattle.rules.specs.Requests.{ranged as rangedAnswer, batchEnd, view, nodeIn, requested}
-use Rattle.rules.specs.Table.{at, put, grown}
+use Rattle.rules.specs.Table.{InUse, at, put, nextPair, grown}
 use Rattle.rules.proofs.Batches.{sheets-join, sheets-none}
-use Rattle.rules.proofs.Expand as Expand
-use Rattle.rules.proofs.Granted.{Asked, Advancing, after, Answers, refuses, owns, advances, marks, expands, looks, answers}
-use Rattle.rules.proofs.Keeps.{no-children, wf-answers, requested-wf}
+use Rattle.rules.proofs.Expand.{Slots, next, split-slots, stays}
+use Rattle.rules.proofs.Granted.{Asked, in-use, Advancing, Answers, refuses, owns, advances, marks, expands, looks, answers}
+use Rattle.rules.proofs.Keeps.{wf-answers, requested-wf}
 use Rattle.rules.proofs.Sheets.{begun}
-use Rattle.rules.proofs.Nodes.{at-same, at-other}
+use Rattle.rules.proofs.Nodes.{at-same, at-other, put-used}
 use Rattle.rules.proofs.Opens.{opened-wf, opened-root}
-use Rattle.rules.proofs.Record.{WF}
+use Rattle.rules.proofs.Record.{WF, in-table, no-children, root-used}
 use Rattle.rules.proofs.States.{Stolen}
-use Rattle.rules.proofs.Tree.{InUse}
 
 -- from a node these batches were granted
 abbrev Given : Node → List Batch → Type 0
@@ -52,14 +51,14 @@ module _ (l : Ledger) (w : WF l) where
   ranged n = sheets (at l n .start) (at l n .until)
 
   whole-range : (n : ℕ) (bs : List Batch) → InUse l n → Given (at l n) bs → sheetsOf bs ++ unclaimedAt l n ≡ ranged n
-  whole-range n bs u g = let a = w .alone n (u .low) (u .high) in rw g (sheets-join _ _ _ (a .low) (a .high))
+  whole-range n bs u g = let a = w .alone n u in rw g (sheets-join _ _ _ (a .low) (a .high))
 
   parts-range : (n c : ℕ) (bs : List Batch) → InUse l n → 0 < c → at l n .left ≡ c → Given (at l n) bs
       → sheetsOf bs ++ (ranged c ++ ranged (c + 1)) ≡ ranged n
   unfolding middle
   parts-range n c bs u some e g =
-      let a = w .alone n (u .low) (u .high) in
-      let p = rw e at (w .pair n (u .low) (u .high) (omega arith)) in
+      let a = w .alone n u in
+      let p = rw e at (w .pair n u (omega arith)) in
       rw
       (g, p .left-start, p .left-until, p .right-start, p .right-until, sheets-join (positionOf (at l n)) (middle (at l n)) (at l n .until) (omega arith) (omega (arith, a .high)))
       (sheets-join _ _ _ (a .low) (a .high))
@@ -127,9 +126,6 @@ module _ (l k : Ledger) where
 
 -- ---- the requests that store one node: own, advance, mark
 
-pub in-use : (l : Ledger) (r : Request) → Asked (l .teams) (l .used) r → InUse l (nodeIn r)
-in-use l r a = record { low = a .node .low; high = a .node .high }
-
 sheetsOf-last : (bs : List Batch) (b : Batch) → sheetsOf (bs ++ (b ∷ [])) ≡ sheetsOf bs ++ sheets (b .from) (b .to)
 unfolding sheetsOf
 sheetsOf-last [] b = append-nil (sheets (b .from) (b .to))
@@ -143,25 +139,19 @@ module _ (l : Ledger) (w : WF l) (r : Request) (asked : Asked (l .teams) (l .use
   u = in-use l r asked
 
   same : at (put l n y) n ≡ y
-  same = at-same l n y (u .low) (omega (arith, u .high, w .slots, w .used-room, w .room-high))
-
-  put-used : (m : ℕ) → InUse l m → InUse (put l n y) m
-  unfolding put
-  put-used m v = record { low = v .low; high = v .high }
+  same = at-same l n y (u .low) (in-table l w n u)
 
   here-used : (p : ℕ) → p ≡ n → InUse (put l n y) p
-  here-used p z = rw z (put-used n u)
+  here-used p z = rw z (put-used l n y u)
 
   there : (m : ℕ) → InUse l m → m ≢ n → Kept l (put l n y) m
-  there m v ne =
-      let e = at-other l n y (u .low) m (v .low) ne in
-      as-it-was l (put l n y) m (put-used m v) e
+  there m v ne = as-it-was l (put l n y) m (put-used l n y v) (at-other l n y (u .low) m (v .low) ne)
 
   -- the position stays: own, mark
-  stays : y .start ≡ at l n .start → y .left ≡ at l n .left → positionOf y ≡ positionOf (at l n)
+  still-stands : y .start ≡ at l n .start → y .left ≡ at l n .left → positionOf y ≡ positionOf (at l n)
       → {s : Story} → Stands l 1 s
       → Stands (put l n y) 1 s
-  stays a b c = still l (put l n y) (λ m v. each m v (ℕ-discrete m n))
+  still-stands a b c = still l (put l n y) (λ m v. each m v (ℕ-discrete m n))
     where
       each : (m : ℕ) → InUse l m → Dec (m ≡ n) → Kept l (put l n y) m
       each m v (no ne) = there m v ne
@@ -182,7 +172,7 @@ module _ (l : Ledger) (w : WF l) (r : Request) (asked : Asked (l .teams) (l .use
 
   claim-given : (bs : List Batch) → Given x bs → Given y (bs ++ (b ∷ []))
   claim-given bs g =
-      let a = w .alone (nodeIn r) (asked .node .low) (asked .node .high) in
+      let a = w .alone (nodeIn r) (in-use l r asked) in
       rw (sheetsOf-last bs b, g) (sheets-join _ _ _ (a .low) (omega (arith, f .end, a .high)))
 
   claim-here : (p : ℕ) → p ≡ nodeIn r → (s : Story) → Stands l p s → Stands (put l (nodeIn r) y) p (claimed b s)
@@ -194,7 +184,7 @@ module _ (l : Ledger) (w : WF l) (r : Request) (asked : Asked (l .teams) (l .use
       (rw (z, same l w r asked y) (rw z at e))
       (rw (z, same l w r asked y) (claim-given bs (rw z at g)))
   claim-here p z s (is-parted v some e g a a′) =
-      let none : at l p .left ≡ 0 = rw z (no-children l w r asked (f .here .plain)) in
+      let none : at l p .left ≡ 0 = rw z (no-children l w (nodeIn r) (in-use l r asked) (f .here .plain)) in
       absurd (omega arith)
 
   claims : {s : Story} → Stands l 1 s → Stands (put l (nodeIn r) y) 1 (onNode (nodeIn r) (claimed b) s)
@@ -211,64 +201,44 @@ module _ (l : Ledger) (w : WF l) (r : Request) (asked : Asked (l .teams) (l .use
 
 module _ (l : Ledger) (w : WF l) (n : ℕ) (u : InUse l n) (st : Stolen (at l n)) where
   abbrev c : ℕ
-  c = l .used + 1
+  c = nextPair l
 
-  abbrev next : Ledger
-  next = after l n (partedNode (at l n) c) (leftPart (at l n)) (rightPart (at l n))
+  abbrev k : Ledger
+  k = next l w n u st
 
-  in-next : (m : ℕ) → 1 ≤ m → m ≤ l .used + 2 → InUse next m
-  unfolding put grown
-  in-next m p q = record { low = p; high = q }
+  p : Slots l k n c (partedNode (at l n) c) (leftPart (at l n)) (rightPart (at l n))
+  p = split-slots l w n u st
 
-  new-story : (m : ℕ) → InUse next m → at next m .left ≡ 0 → at next m .start ≡ positionOf (at next m) → Stands next m (whole m [])
+  new-story : (m : ℕ) → InUse k m → at k m .left ≡ 0 → at k m .start ≡ positionOf (at k m) → Stands k m (whole m [])
   unfolding sheetsOf
   new-story m v e f = is-whole {bs = []} v e (rw (f, sheets-none))
 
-  left-stands : Stands next c (whole c [])
+  left-stands : Stands k c (whole c [])
   unfolding leftPart
-  left-stands =
-      new-story
-      c
-      (in-next c (omega arith) (omega arith))
-      (rw (Expand.left-is l w n (u .low) (u .high) st))
-      (rw (Expand.left-is l w n (u .low) (u .high) st))
+  left-stands = new-story c (p .left-used) (rw (p .left)) (rw (p .left))
 
-  right-stands : Stands next (c + 1) (whole (c + 1) [])
+  right-stands : Stands k (c + 1) (whole (c + 1) [])
   unfolding rightPart
-  right-stands =
-      new-story
-      (c + 1)
-      (in-next (c + 1) (omega arith) (omega arith))
-      (rw (Expand.right-is l w n (u .low) (u .high) st))
-      (rw (Expand.right-is l w n (u .low) (u .high) st))
+  right-stands = new-story (c + 1) (p .right-used) (rw (p .right)) (rw (p .right))
 
-  split-here : (p : ℕ) → p ≡ n → (s : Story) → Stands l p s → Stands next p (split c s)
-  split-here p z s (is-whole {bs = bs} v e g) =
+  split-here : (m : ℕ) → m ≡ n → (s : Story) → Stands l m s → Stands k m (split c s)
+  split-here m z s (is-whole {bs = bs} v e g) =
       is-parted
-      {n = p}
+      {n = m}
       {c = c}
       {bs = bs}
-      (let h = u .high in rw z (in-next n (u .low) (omega arith)))
-      (omega arith)
-      (rw (z, Expand.here-is l w n (u .low) (u .high) st))
-      (rw (z, Expand.here-is l w n (u .low) (u .high) st) (rw z at g))
+      (p .kept m v)
+      (p .left-used .low)
+      (rw (z, p .here))
+      (rw (z, p .here) (rw z at g))
       left-stands
       right-stands
-  split-here p z s (is-parted v some e g a a′) =
-      let none : at l p .left ≡ 0 = rw z (st .leaf) in
+  split-here m z s (is-parted v some e g a a′) =
+      let none : at l m .left ≡ 0 = rw z (st .leaf) in
       absurd (omega arith)
 
-  splits : {s : Story} → Stands l 1 s → Stands next 1 (onNode n (split c) s)
-  splits =
-      on
-      l
-      next
-      n
-      (split c)
-      (λ m v ne.
-      let h = v .high in
-      as-it-was l next m (in-next m (v .low) (omega arith)) (Expand.other-is l w n (u .low) (u .high) st m (v .low) ne (omega arith) (omega arith)))
-      split-here
+  splits : {s : Story} → Stands l 1 s → Stands k 1 (onNode n (split c) s)
+  splits = on l k n (split c) (λ m v ne. as-it-was l k m (p .kept m v) (stays l w n u st m v ne)) split-here
 
 -- ---- any request
 
@@ -279,12 +249,12 @@ answers-stand {l} {r} w (refuses ne) s h = rw (ne-eqb (refusal (view l (nodeIn r
 answers-stand {l} {r} w (owns k q f) s h =
     rw
     k
-    (stays l w r q (owned (at l (nodeIn r)) (natOf (r .team))) refl refl refl h)
+    (still-stands l w r q (owned (at l (nodeIn r)) (natOf (r .team))) refl refl refl h)
 answers-stand {l} {r} w (advances k q f) s h = rw k (claims l w r q f h)
 answers-stand {l} {r} w (marks k q f) s h =
     rw
     k
-    (stays l w r q (moved (at l (nodeIn r)) (negsuc (positionOf (at l (nodeIn r))))) refl refl refl h)
+    (still-stands l w r q (moved (at l (nodeIn r)) (negsuc (positionOf (at l (nodeIn r))))) refl refl refl h)
 answers-stand {l} {r} w (expands k q f) s h = rw k (splits l w (nodeIn r) (in-use l r q) f h)
 answers-stand {l} {r} w (looks k q) s h = rw k h
 
@@ -333,7 +303,7 @@ module _ (o : Opening) (rs : List Request) (good : opens o ≡ true) where
   pub begins : Stands opened-one 1 (whole 1 [])
   unfolding sheetsOf
   begins =
-      is-whole {n = 1} {bs = []} (record { low = omega arith; high = unfold opened in (omega arith) }) (rw opened-root) (rw (opened-root, sheets-none))
+      is-whole {n = 1} {bs = []} (root-used opened-one (opened-wf o good)) (rw opened-root) (rw (opened-root, sheets-none))
 
   once : read (unclaimedAt (afterAll opened-one rs)) (toldAll opened-one (whole 1 []) rs) ≡ sheets (natOf (o .start)) (natOf (o .until))
   unfolding opened

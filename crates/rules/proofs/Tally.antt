@@ -16,16 +16,16 @@ use Rattle.rules.specs.Opening.{ledgerOf}
 use Rattle.rules.specs.Refusals.{refusal}
 use Rattle.rules.specs.Requests.{refusing, ranged, batchEnd, view, nodeIn, requested}
 use Rattle.rules.specs.Story.{Story, whole, parted, claimed, split, onNode, told, toldAll, batchesIn, tally, StoryHasAll}
-use Rattle.rules.specs.Table.{at}
+use Rattle.rules.specs.Table.{InUse, at, nextPair}
 use Rattle.rules.proofs.Batches.{no-batch, one-batch}
-use Rattle.rules.proofs.Granted.{Answers, refuses, owns, advances, marks, expands, looks, answers}
+use Rattle.rules.proofs.Granted.{in-use, Answers, refuses, owns, advances, marks, expands, looks, answers}
 use Rattle.rules.proofs.Keeps.{requested-wf}
 use Rattle.rules.proofs.Opens.{opened-wf}
 use Rattle.rules.proofs.Record.{WF}
-use Rattle.rules.proofs.Story.{in-use, Stands, is-whole, is-parted, requested-stands, begins}
+use Rattle.rules.proofs.Story.{Stands, is-whole, is-parted, requested-stands, begins}
 use Rattle.rules.proofs.Sheets.{begun}
 use Rattle.rules.proofs.Rooted.{rooted}
-use Rattle.rules.proofs.Tree.{sameAs, same-one, same-none, InUse, Tree, leaf, fork, times}
+use Rattle.rules.proofs.Tree.{sameAs, same-one, same-none, Tree, leaf, fork, times}
 
 -- how often a number stands in the story, of nodes in use
 unfoldable live : ℕ → Story → ℕ
@@ -115,7 +115,7 @@ module _ (f : Batch → ℕ) where
   counted {l} {r} w (marks k q g) s h = rw (k, no-batch r _ (λ e. absurd (omega arith))) (omega arith)
   counted {l} {r} w (expands k q g) s h =
       let one = live-once l w s h (nodeIn r) (in-use l r q) in
-      let c = rw one at (on-count (nodeIn r) (split (l .used + 1)) 0 (split-adds (l .used + 1)) s (omega arith)) in
+      let c = rw one at (on-count (nodeIn r) (split (nextPair l)) 0 (split-adds (nextPair l)) s (omega arith)) in
       rw (no-batch r _ (λ e. absurd (omega arith)), k) (omega arith)
   counted {l} {r} w (looks k q) s h = rw (k, no-batch r _ (λ e. absurd (omega arith))) (omega arith)
 

@@ -3,13 +3,13 @@
 use mathlib.Core.Path.{_≡_}
 use mathlib.Core.Logic.{_≢_}
 use mathlib.Core.Bool.{cond}
-use Prim.Native.Nat.{ℕ, _+_, _≤_, _<_}
+use Prim.Native.Nat.{ℕ, _+_, _<_}
 use native.Mathlib.Omega.{arith}
 use native.Mathlib.Decide.{ℕ-discrete}
 use lib.Dec.{eqb}
 use borrow.Author.Tests.{eq-eqb, ne-eqb}
 use Rattle.rules.specs.declared.Ledger.{Ledger}
-use Rattle.rules.specs.Table.{at}
+use Rattle.rules.specs.Table.{InUse, at}
 
 -- 1 for the same number, 0 for any other
 unfoldable pub sameAs : ℕ → ℕ → ℕ
@@ -22,11 +22,6 @@ same-one n m e = rw (eq-eqb n m e)
 pub same-none : (n m : ℕ) → n ≢ m → sameAs n m ≡ 0
 unfolding sameAs
 same-none n m ne = rw (ne-eqb n m ne)
-
--- slot n is in use
-pub record InUse (l : Ledger) (n : ℕ) : Type 0 where
-  pub low : 1 ≤ n
-  pub high : n ≤ l .used
 
 pub data Tree (l : Ledger) : ℕ → Type 0 where
   leaf : {n : ℕ} → InUse l n → at l n .left ≡ 0 → Tree l n

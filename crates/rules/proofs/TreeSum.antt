@@ -11,7 +11,7 @@ use Rattle.rules.specs.declared.Ledger.{Ledger}
 use Rattle.rules.specs.Limits.{maxNodes}
 use Rattle.rules.specs.Nodes.{blank}
 use Rattle.rules.specs.Table.{at, sumBy}
-use Rattle.rules.proofs.Record.{WF}
+use Rattle.rules.proofs.Record.{WF, used-high}
 use Rattle.rules.proofs.Nodes.{at-next}
 use Rattle.rules.proofs.Rooted.{rooted}
 use Rattle.rules.proofs.Sums.{sumBy-next, sumBy-none}
@@ -122,4 +122,4 @@ tree-sum l w f z =
     (λ (m : ℕ). times m (rooted l w .tree) * f (at l m))
     maxNodes
     (λ m p q. weight l w f z m p) in
-    all ∙ (same ∙ weighed (λ (m : ℕ). f (at l m)) (rooted l w .tree) maxNodes (omega (arith, w .used-room, w .room-high)))
+    all ∙ (same ∙ weighed (λ (m : ℕ). f (at l m)) (rooted l w .tree) maxNodes (used-high l w))

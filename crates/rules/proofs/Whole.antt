@@ -7,7 +7,6 @@ use Prim.Native.Nat.{ℕ, _+_, _≤_, _<_}
 use native.Mathlib.Omega.{arith}
 use native.Mathlib.Decide.{ℕ-discrete}
 use lib.IntN.{pos, negsuc}
-use lib.ListN.{length}
 use Rattle.numbers.specs.Fields.{natOf}
 use Rattle.rules.specs.declared.Node.{Node}
 use Rattle.rules.specs.declared.Ledger.{Ledger}
@@ -17,22 +16,23 @@ use Rattle.rules.specs.Listing.{sheets, unclaimedOf, afterAll, Batch, ba
 use Rattle.rules.specs.Nodes.{owned, moved, parted, positionOf, middle, leftPart, rightPart}
 use Rattle.rules.specs.Refusals.{refusal}
 use Rattle.rules.specs.Requests.{refusing, ranged, batchEnd, view, nodeIn, requested}
-use Rattle.rules.specs.Table.{at, put, grown}
+use Rattle.rules.specs.Table.{InUse, at, put, nextPair}
 use Rattle.rules.proofs.Batches.{sheets-join, sheets-none, no-batch, one-batch, granted-here, granted-other}
-use Rattle.rules.proofs.Granted.{Asked, Advancing, after as splitAt, Answers, refuses, owns, advances, marks, expands, looks, answers}
-use Rattle.rules.proofs.Keeps.{no-children, wf-answers, requested-wf}
-use Rattle.rules.proofs.Nodes.{at-same, at-other}
-use Rattle.rules.proofs.Record.{WF}
-use Rattle.rules.proofs.Split.{split-here, split-left, split-right, split-other}
+use Rattle.rules.proofs.Granted.{Asked, in-use, Advancing, Answers, refuses, owns, advances, marks, expands, looks, answers}
+use Rattle.rules.proofs.Keeps.{wf-answers, requested-wf}
+use Rattle.rules.proofs.Nodes.{at-same, at-other, put-used, put-was}
+use Rattle.rules.proofs.Record.{WF, in-table, no-children}
+use Rattle.rules.proofs.Spare.{not-left, not-right}
+use Rattle.rules.proofs.States.{Stolen}
 use Rattle.rules.proofs.Store.{Swap}
 use Rattle.rules.proofs.Rooted.{rooted}
-use Rattle.rules.proofs.Tree.{InUse, Tree, leaf, fork}
-use Rattle.rules.proofs.Expand.{pair-fits}
+use Rattle.rules.proofs.Tree.{Tree, leaf, fork}
+use Rattle.rules.proofs.Expand.{Among, parent, left, right, other, Slots, next, split-slots}
 
 pub record Whole (l : Ledger) (bs : List Batch) : Type 0 where
   pub wf : WF l
-  pub given : (n : ℕ) → 1 ≤ n → n ≤ l .used → grantedFrom bs n ≡ sheets (at l n .start) (positionOf (at l n))
-  pub none : (n : ℕ) → l .used < n → grantedFrom bs n ≡ []
+  pub given : (n : ℕ) → InUse l n → grantedFrom bs n ≡ sheets (at l n .start) (positionOf (at l n))
+  pub none : (n : ℕ) → (InUse l n → ⊥) → grantedFrom bs n ≡ []
 
 -- ---- the listing of a tree
 
@@ -42,17 +42,17 @@ module _ (l : Ledger) (bs : List Batch) (h : Whole l bs) where
 
   ends-whole : (n : ℕ) → InUse l n → grantedFrom bs n ++ unclaimedOf (at l n) ≡ ranged-of n
   ends-whole n u =
-      let a = h .wf .alone n (u .low) (u .high) in
-      rw (h .given n (u .low) (u .high)) (sheets-join _ _ _ (a .low) (a .high))
+      let a = h .wf .alone n u in
+      rw (h .given n u) (sheets-join _ _ _ (a .low) (a .high))
 
   parts-whole : (n c : ℕ) → InUse l n → 0 < c → at l n .left ≡ c
       → grantedFrom bs n ++ (ranged-of c ++ ranged-of (c + 1)) ≡ ranged-of n
   unfolding middle
   parts-whole n c u some e =
-      let a = h .wf .alone n (u .low) (u .high) in
-      let p = rw e at (h .wf .pair n (u .low) (u .high) (omega arith)) in
+      let a = h .wf .alone n u in
+      let p = rw e at (h .wf .pair n u (omega arith)) in
       rw
-      (h .given n (u .low) (u .high), p .left-start, p .left-until, p .right-start, p .right-until, sheets-join (positionOf (at l n)) (middle (at l n)) (at l n .until) (omega arith) (omega (arith, a .high)))
+      (h .given n u, p .left-start, p .left-until, p .right-start, p .right-until, sheets-join (positionOf (at l n)) (middle (at l n)) (at l n .until) (omega arith) (omega (arith, a .high)))
       (sheets-join _ _ _ (a .low) (a .high))
 
   lists : {n : ℕ} → Tree l n → Lists l bs n (ranged-of n)
@@ -78,70 +78,57 @@ root-lists l bs a b h e f =
 
 -- ---- one node changes: own, advance, mark
 
-module _ (l : Ledger) (bs cs : List Batch) (n : ℕ) (y : Node) (h : Whole l bs) (low : 1 ≤ n) (high : n ≤ l .used)
+module _ (l : Ledger) (bs cs : List Batch) (n : ℕ) (y : Node) (h : Whole l bs) (u : InUse l n)
     (good : WF (put l n y)) (sw : Swap (at l n) y) (forward : positionOf (at l n) ≤ positionOf y)
     (here : grantedFrom cs n ≡ grantedFrom bs n ++ sheets (positionOf (at l n)) (positionOf y))
     (there : (m : ℕ) → m ≢ n → grantedFrom cs m ≡ grantedFrom bs m) where
   same : at (put l n y) n ≡ y
-  same = at-same l n y low (omega (arith, h .wf .slots, h .wf .used-room, h .wf .room-high))
+  same = at-same l n y (u .low) (in-table l (h .wf) n u)
 
-  stored-given : (m : ℕ) → 1 ≤ m → m ≤ l .used → Dec (m ≡ n)
+  stored-given : (m : ℕ) → InUse l m → Dec (m ≡ n)
       → grantedFrom cs m ≡ sheets (at (put l n y) m .start) (positionOf (at (put l n y) m))
-  stored-given m p q (yes e) =
+  stored-given m v (yes e) =
       rw
-      (e, same, here, h .given n low high, sw .start)
-      (sheets-join _ _ _ (h .wf .alone n low high .low) forward)
-  stored-given m p q (no ne) = rw (at-other l n y low m p ne, there m ne) (h .given m p q)
+      (e, same, here, h .given n u, sw .start)
+      (sheets-join _ _ _ (h .wf .alone n u .low) forward)
+  stored-given m v (no ne) = rw (at-other l n y (u .low) m (v .low) ne, there m ne) (h .given m v)
 
   pub stored-whole : Whole (put l n y) cs
-  unfolding put
   stored-whole =
       record {
         wf = good;
-        given = λ m p q. stored-given m p q (ℕ-discrete m n);
-        none = λ m p. there m (omega arith) ∙ h .none m p;
+        given = λ m v. stored-given m (put-was l n y v) (ℕ-discrete m n);
+        none = λ m free. let out : InUse l m → ⊥ = λ v. free (put-used l n y v) in there m (λ e. out (rw e u)) ∙ h .none m out;
       }
 
 -- ---- a node is split: expand
 
-module _ (l : Ledger) (bs : List Batch) (n : ℕ) (h : Whole l bs) (low : 1 ≤ n) (high : n ≤ l .used) (leafy : at l n .left ≡ 0)
-    (room : l .used + 2 ≤ length (l .nodes)) where
+module _ (l : Ledger) (bs : List Batch) (n : ℕ) (h : Whole l bs) (u : InUse l n) (st : Stolen (at l n)) where
+  abbrev c : ℕ
+  c = nextPair l
+
+  abbrev k : Ledger
+  k = next l (h .wf) n u st
+
   abbrev x : Node
   x = at l n
 
-  abbrev y : Node
-  y = parted x (l .used + 1)
+  p : Slots l k n c (parted x c) (leftPart x) (rightPart x)
+  p = split-slots l (h .wf) n u st
 
-  abbrev next : Ledger
-  next = splitAt l n y (leftPart x) (rightPart x)
-
-  here-is : at next n ≡ y
-  here-is = split-here l n y (leftPart x) (rightPart x) low high room
-
-  left-is : at next (l .used + 1) ≡ leftPart x
-  left-is = split-left l n y (leftPart x) (rightPart x) low high room
-
-  right-is : at next (l .used + 1 + 1) ≡ rightPart x
-  right-is = split-right l n y (leftPart x) (rightPart x) low high room
-
-  other-is : (m : ℕ) → 1 ≤ m → m ≢ n → m ≢ l .used + 1 → m ≢ l .used + 1 + 1 → at next m ≡ at l m
-  other-is = split-other l n y (leftPart x) (rightPart x) low high room
-
-  split-given : (m : ℕ) → 1 ≤ m → m ≤ l .used + 2 → Dec (m ≡ n) → Dec (m ≡ l .used + 1) → Dec (m ≡ l .used + 1 + 1)
-      → grantedFrom bs m ≡ sheets (at next m .start) (positionOf (at next m))
+  split-given : (m : ℕ) → Among l n c m → grantedFrom bs m ≡ sheets (at k m .start) (positionOf (at k m))
   unfolding leftPart rightPart
-  split-given m p q (yes e) d₁ d₂ = rw (e, here-is) (h .given n low high)
-  split-given m p q (no ne) (yes e) d₂ = h .none m (omega arith) ∙ rw (e, left-is, sheets-none)
-  split-given m p q (no ne) (no n₁) (yes e) = h .none m (omega arith) ∙ rw (e, right-is, sheets-none)
-  split-given m p q (no ne) (no n₁) (no n₂) = rw (other-is m p ne n₁ n₂) (h .given m p (omega arith))
+  split-given m (parent e) = rw (e, p .here) (h .given n u)
+  split-given m (left e) = h .none m (λ v. not-left l (h .wf) m v e) ∙ rw (e, p .left, sheets-none)
+  split-given m (right e) = h .none m (λ v. not-right l (h .wf) m v e) ∙ rw (e, p .right, sheets-none)
+  split-given m (other v ne n₁ n₂) = rw (p .other m (v .low) ne n₁ n₂) (h .given m v)
 
-  pub split-whole : WF next → Whole next bs
-  unfolding put grown
+  pub split-whole : WF k → Whole k bs
   split-whole good =
       record {
         wf = good;
-        given = λ m p q. split-given m p q (ℕ-discrete m n) (ℕ-discrete m (l .used + 1)) (ℕ-discrete m (l .used + 1 + 1));
-        none = λ m p. h .none m (omega arith);
+        given = λ m v. split-given m (p .among m v);
+        none = λ m free. h .none m (λ v. free (p .kept m v));
       }
 
 -- ---- any request
@@ -157,7 +144,7 @@ module _ (l : Ledger) (bs : List Batch) (r : Request) (h : Whole l bs) (asked : 
 
   still-whole : (y : Node) → WF (put l n y) → Swap (at l n) y → positionOf y ≡ positionOf (at l n) → Whole (put l n y) bs
   still-whole y good sw e =
-      stored-whole l bs bs n y h (asked .node .low) (asked .node .high) good sw (omega arith) (still y e) (λ m ne. refl)
+      stored-whole l bs bs n y h (in-use l r asked) good sw (omega arith) (still y e) (λ m ne. refl)
 
   swap-leaf : (y : Node) → at l n .left ≡ 0 → y .start ≡ at l n .start → y .until ≡ at l n .until → y .left ≡ at l n .left
       → Swap (at l n) y
@@ -174,11 +161,10 @@ module _ (l : Ledger) (bs : List Batch) (r : Request) (h : Whole l bs) (asked : 
       n
       y
       h
-      (asked .node .low)
-      (asked .node .high)
+      (in-use l r asked)
       good
-      (swap-leaf y (no-children l (h .wf) r asked (f .here .plain)) refl refl refl)
-      (omega (arith, f .end, h .wf .alone n (asked .node .low) (asked .node .high) .high))
+      (swap-leaf y (no-children l (h .wf) n (in-use l r asked) (f .here .plain)) refl refl refl)
+      (omega (arith, f .end, h .wf .alone n (in-use l r asked) .high))
       (granted-here bs b n refl)
       (λ m ne. granted-other bs b m (λ e. ne (sym e)))
     where
@@ -202,11 +188,11 @@ answers-whole {l} {bs} {r} h good (advances k q f) =
 answers-whole {l} {bs} {r} h good (marks k q f) =
     rw
     (no-batch r _ (λ e. absurd (omega arith)))
-    (still-whole l bs r h q (moved (at l (nodeIn r)) (negsuc (positionOf (at l (nodeIn r))))) good (swap-leaf l bs r h q _ (no-children l (h .wf) r q (f .here .plain)) refl refl refl) refl)
+    (still-whole l bs r h q (moved (at l (nodeIn r)) (negsuc (positionOf (at l (nodeIn r))))) good (swap-leaf l bs r h q _ (no-children l (h .wf) (nodeIn r) (in-use l r q) (f .here .plain)) refl refl refl) refl)
 answers-whole {l} {bs} {r} h good (expands k q f) =
     rw
     (no-batch r _ (λ e. absurd (omega arith)))
-    (split-whole l bs (nodeIn r) h (q .node .low) (q .node .high) (f .leaf) (pair-fits l (h .wf) (nodeIn r) (q .node .low) (q .node .high) f) good)
+    (split-whole l bs (nodeIn r) h (in-use l r q) f good)
 answers-whole {l} {bs} {r} h good (looks k q) = rw (no-batch r _ (λ e. absurd (omega arith))) h
 
 pub requested-whole : (l : Ledger) (bs : List Batch) (r : Request) → Whole l bs

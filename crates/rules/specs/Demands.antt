@@ -15,11 +15,11 @@ use Rattle.rules.specs.declared.Request.{Request}
 use Rattle.rules.specs.Examples.{examples, AllRight}
 use Rattle.rules.specs.Limits.{maxNodes}
 use Rattle.rules.specs.Moves.{leads, isIn}
-use Rattle.rules.specs.Nodes.{fresh, positionOf, leftOver, leftPart, rightPart}
+use Rattle.rules.specs.Nodes.{blank, fresh, positionOf, leftOver, leftPart, rightPart}
 use Rattle.rules.specs.Opening.{opening}
 use Rattle.rules.specs.Requests.{nodeIn, refusing, view, requested}
 use Rattle.rules.specs.States.{OWNED, COMPLETED, STOLEN, stateOf}
-use Rattle.rules.specs.Table.{at}
+use Rattle.rules.specs.Table.{InUse, at, nextPair}
 use Rattle.rules.specs.WellFormed.{wellFormed}
 
 -- An opening that is not refused makes a well-formed ledger.
@@ -49,20 +49,22 @@ LateSplitterTold =
     (l : Ledger) (r : Request) → length (l .nodes) ≡ maxNodes → wellFormed l ≡ true → requested l r .answer .code ≡ 16
     → Told l (nodeIn r) (requested l r .answer)
 
--- A pair to take: the next two slots are within the room.
-abbrev pub HasPair : Ledger → Type 0
-HasPair l = l .used + 2 ≤ l .room
+-- A pair to take: both its slots are within the room, and all 0.
+pub record HasPair (l : Ledger) : Type 0 where
+  pub fits : nextPair l + 1 ≤ l .room
+  pub left : at l (nextPair l) ≡ blank
+  pub right : at l (nextPair l + 1) ≡ blank
 
 -- A STOLEN node of a well-formed ledger has a pair to take, so a split needs no test for room.
 abbrev pub RoomForEverySplit : Type 0
 RoomForEverySplit =
-    (l : Ledger) (n : ℕ) → length (l .nodes) ≡ maxNodes → wellFormed l ≡ true → 1 ≤ n → n ≤ l .used → stateOf (at l n) ≡ STOLEN
+    (l : Ledger) (n : ℕ) → length (l .nodes) ≡ maxNodes → wellFormed l ≡ true → InUse l n → stateOf (at l n) ≡ STOLEN
     → HasPair l
 
 -- An OWNED node has a sheet left, so a team that seeks does not ask how many: it can steal the last one too.
 abbrev pub OwnedHasSome : Type 0
 OwnedHasSome =
-    (l : Ledger) (n : ℕ) → length (l .nodes) ≡ maxNodes → wellFormed l ≡ true → 1 ≤ n → n ≤ l .used → stateOf (at l n) ≡ OWNED
+    (l : Ledger) (n : ℕ) → length (l .nodes) ≡ maxNodes → wellFormed l ≡ true → InUse l n → stateOf (at l n) ≡ OWNED
     → 1 ≤ leftOver (at l n)
 
 -- The parts of a node with one sheet left: an empty left one, and a right one with the sheet.
@@ -74,13 +76,13 @@ LastSheet =
 -- An empty node is COMPLETED from the start and never owned.
 abbrev pub EmptyNeverOwned : Type 0
 EmptyNeverOwned =
-    (l : Ledger) (n : ℕ) → length (l .nodes) ≡ maxNodes → wellFormed l ≡ true → 1 ≤ n → n ≤ l .used → at l n .start ≡ at l n .until
+    (l : Ledger) (n : ℕ) → length (l .nodes) ≡ maxNodes → wellFormed l ≡ true → InUse l n → at l n .start ≡ at l n .until
     → (stateOf (at l n) ≡ COMPLETED) × (at l n .owner ≡ 0)
 
 -- What the rule of moves says of a request r that makes a ledger l into another.
 pub record Moves (l : Ledger) (r : Request) (next : Ledger) : Type 0 where
   -- every other node in use stays as it was
-  pub others : (m : ℕ) → 1 ≤ m → m ≤ l .used → m ≢ nodeIn r → at next m ≡ at l m
+  pub others : (m : ℕ) → InUse l m → m ≢ nodeIn r → at next m ≡ at l m
   -- its own node moves as the rule has it, or nothing changes
   pub moves : (next ≡ l) ⊎ (isIn (stateOf (at next (nodeIn r))) (leads (stateOf (at l (nodeIn r))) (natOf (r .kind))) ≡ true)
   -- and where the rule has no move, nothing changes

@@ -17,7 +17,7 @@ use Rattle.rules.specs.declared.Outcome.{Outcome}
 use Rattle.rules.specs.Moves.{byKind}
 use Rattle.rules.specs.Nodes.{owned, moved, parted, positionOf, middle, leftPart, rightPart}
 use Rattle.rules.specs.States.{stateOf}
-use Rattle.rules.specs.Table.{at, put, grown, stolenIn}
+use Rattle.rules.specs.Table.{at, put, nextPair, grown, stolenIn}
 use Rattle.rules.specs.Refusals.{refusal}
 use Rattle.rules.specs.WellFormed.{wellFormed}
 
@@ -103,7 +103,7 @@ view l n =
       room = l .room;
       used = l .used;
       stolen = stolenIn l;
-      pair = l .used + 1;
+      pair = nextPair l;
       node = at l n;
     }
 
@@ -111,7 +111,7 @@ view l n =
 unfoldable pub changed : Ledger → ℕ → Change → Ledger
 changed l n Keep = l
 changed l n (Store x) = put l n x
-changed l n (Split x pair a b) = grown (put (put (put l n x) pair a) (pair + 1) b)
+changed l n (Split x pair a b) = grown (put (put (put l n x) pair a) (pair + 1) b) pair
 
 abbrev pub nodeIn : Request → ℕ
 nodeIn r = natOf (r .node)

@@ -21,7 +21,7 @@ use Rattle.rules.specs.Opening.{opening, ledgerOf}
 use Rattle.rules.proofs.Listed.{listed-lists}
 use Rattle.rules.proofs.Onward.{run-later}
 use Rattle.rules.proofs.Opens.{opened-wf}
-use Rattle.rules.proofs.Record.{WF, rules, rules-back}
+use Rattle.rules.proofs.Record.{WF, rules, rules-back, root-used}
 use Rattle.rules.proofs.Sheets.{begun, every-sheet-once}
 use Rattle.sheet_order.specs.declared.Piece.{Piece}
 use Rattle.sheet_order.specs.declared.Pieces.{Pieces}
@@ -68,8 +68,7 @@ module _ (l : Ledger) (g : Pieces) where
         slots = slots;
         formed = h .0;
         grants = leb-true (g .count) most (k .1);
-        low = omega arith;
-        high = omega (arith, w .odd);
+        used = root-used l w;
       }
 
 pub reads-small : ReadsSmall
@@ -79,7 +78,7 @@ reads-small l g slots e fits =
     let w = rules l slots (r .formed) in
     rw
     (e, le-leb (length (rootPieces l g)) most fits)
-    (some-piece l (grantedTo (g .items) (g .count)) (l .used) 1 w (omega arith) (r .high) (omega arith))
+    (some-piece l (grantedTo (g .items) (g .count)) w)
 
 -- ---- a grant more
 

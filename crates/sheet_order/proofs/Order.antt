@@ -1,6 +1,7 @@
 -- The pieces of a node, as the code gathers them, and that their sheets are the rules' listing.
 use Prim.Native.Nat.{ℕ, zero, suc, _+_, _-_, _≤_, _<_}
 use mathlib.Core.Path.{_≡_, refl, ap}
+use mathlib.Core.Logic.{_≢_}
 use mathlib.Core.Bool.{Bool, true, false, cond}
 use mathlib.Core.List.{List, [], _∷_, _++_, append-assoc, append-nil, map}
 use native.Mathlib.Numerals.{add-one}
@@ -10,6 +11,7 @@ use lib.ListN.{length, getD, length-append}
 use borrow.Author.Tests.{eqb-false, eq-eqb, ne-eqb}
 use native.Mathlib.Decide.{ℕ-discrete}
 use Rattle.rules.specs.declared.Ledger.{Ledger}
+use Rattle.rules.specs.Limits.{maxNodes}
 use Rattle.rules.specs.Listed.{listed}
 use Rattle.rules.specs.Listing.{sheets, grantedFrom}
 use Rattle.rules.specs.Nodes.{positionOf, childless}
@@ -17,7 +19,10 @@ use Rattle.rules.specs.Table.{at}
 use Rattle.sheet_order.specs.declared.Piece.{Piece}
 use Rattle.sheet_order.specs.declared.Pieces.{Pieces}
 use Rattle.sheet_order.specs.Row.{noPiece, withPiece, withAll}
-use Rattle.rules.proofs.Record.{WF, rules}
+use Rattle.rules.proofs.Record.{WF, rules, used-high, left-used, right-used}
+use Rattle.rules.proofs.Rooted.{rooted}
+use Rattle.rules.proofs.Tree.{Tree, leaf, fork}
+use Rattle.rules.proofs.TreeSum.{sumTree, size, size-some, rooted-size}
 use Rattle.sheet_order.specs.Order.{Readable, grantedTo, asBatch, sheetsOf, fromNode, unclaimedPiece, pieces}
 use Rattle.sheet_order.proofs.Row.{withAll-both, withAll-one}
 
@@ -69,35 +74,28 @@ pub children : (l : Ledger) (g : Pieces) (n : ℕ)
     → Readable l g (at l n .left) × Readable l g (at l n .left + 1)
 children l g n r c =
     let w = rules l (r .slots) (r .formed) in
-    let some : 0 < at l n .left = omega (arith, eqb-false (at l n .left) 0 c) in
-    let p = w .pair n (r .low) (r .high) some in (
-      record { slots = r .slots; formed = r .formed; grants = r .grants; low = omega arith; high = omega (arith, p .inside) },
-      record { slots = r .slots; formed = r .formed; grants = r .grants; low = omega arith; high = omega (arith, p .inside) },
+    let some : 0 < at l n .left = omega (arith, eqb-false (at l n .left) 0 c) in (
+      record { slots = r .slots; formed = r .formed; grants = r .grants; used = left-used l w n (r .used) some },
+      record { slots = r .slots; formed = r .formed; grants = r .grants; used = right-used l w n (r .used) some },
     )
 
 -- and so are numbers of slots
-pub slot-small : (l : Ledger) (g : Pieces) (n : ℕ) → Readable l g n → n ≤ 1023
-slot-small l g n r = let w = rules l (r .slots) (r .formed) in omega (arith, w .used-room, w .room-high, r .high)
+pub slot-small : (l : Ledger) (g : Pieces) (n : ℕ) → Readable l g n → n ≤ maxNodes
+slot-small l g n r = omega (arith, used-high l (rules l (r .slots) (r .formed)), r .used .high)
 
--- as deep as there are nodes, a node has pieces
-pub some-piece : (l : Ledger) (ps : List Piece) (depth n : ℕ)
-    → WF l
-    → 1 ≤ n
-    → n ≤ l .used
-    → l .used < depth + n
-    → 0 < length (pieces depth l ps n)
-unfolding pieces
-some-piece l ps zero n w low high h = absurd (omega arith)
-some-piece l ps (suc depth) n w low high h = go (ℕ-discrete (at l n .left) 0) (λ m p q k. some-piece l ps depth m w p q k)
-  where
-    go : Dec (at l n .left ≡ 0)
-        → ((m : ℕ) → 1 ≤ m → m ≤ l .used → l .used < depth + m → 0 < length (pieces depth l ps m))
-        → 0 < length (pieces (suc depth) l ps n)
-    go (yes e) below = unfold pieces in rw (eq-eqb (at l n .left) 0 e, length-append) (omega arith)
-    go (no ne) below =
-        let p = w .pair n low high (omega arith) in
-        let b = below (at l n .left) (omega (arith, p .later)) (omega (arith, p .inside)) (omega (arith, p .later)) in
-        unfold pieces in simp (ne-eqb (at l n .left) 0 ne, length-append) (omega arith)
+-- as deep as the tree is large, a node has pieces
+some-below : (l : Ledger) (ps : List Piece) (depth : ℕ) {n : ℕ} (t : Tree l n) → size t ≤ depth → 0 < length (pieces depth l ps n)
+unfolding pieces size sumTree
+some-below l ps zero t h = absurd (omega (arith, size-some t))
+some-below l ps (suc depth) (leaf {n = n} u e) h = rw (eq-eqb (at l n .left) 0 e, length-append) (omega arith)
+some-below l ps (suc depth) (fork {n = n} u some e x y) h =
+    let ne : at l n .left ≢ 0 = omega arith in
+    let b : 0 < length (pieces depth l ps (at l n .left)) = rw e (some-below l ps depth x (omega arith)) in
+    simp (ne-eqb (at l n .left) 0 ne, length-append) (omega arith)
+
+-- and as deep as there are nodes, so has the root
+pub some-piece : (l : Ledger) (ps : List Piece) → WF l → 0 < length (pieces (l .used) l ps 1)
+some-piece l ps w = let r = rooted l w in some-below l ps (l .used) (r .tree) (rooted-size l r)
 
 -- ---- its sheets
 

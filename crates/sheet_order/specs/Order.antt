@@ -10,7 +10,7 @@ use Rattle.rules.specs.declared.Ledger.{Ledger}
 use Rattle.rules.specs.Limits.{maxNodes}
 use Rattle.rules.specs.Listing.{Batch, sheets}
 use Rattle.rules.specs.Nodes.{positionOf, childless}
-use Rattle.rules.specs.Table.{at}
+use Rattle.rules.specs.Table.{InUse, at}
 use Rattle.rules.specs.WellFormed.{wellFormed}
 use Rattle.sheet_order.specs.declared.Piece.{Piece}
 use Rattle.sheet_order.specs.declared.Pieces.{Pieces}
@@ -80,5 +80,4 @@ pub record Readable (l : Ledger) (g : Pieces) (n : ℕ) : Type 0 where
   pub slots : length (l .nodes) ≡ maxNodes
   pub formed : wellFormed l ≡ true
   pub grants : g .count ≤ most
-  pub low : 1 ≤ n
-  pub high : n ≤ l .used
+  pub used : InUse l n

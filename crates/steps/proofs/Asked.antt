@@ -6,7 +6,6 @@ use Prim.Native.Nat.{ℕ, _+_, _*_, _≤_, _<_}
 use native.Mathlib.Omega.{arith}
 use native.Mathlib.Decide.{decLe}
 use lib.IntN.{ℤ, pos, negsuc}
-use lib.ListN.{length}
 use borrow.Author.Tests.{eq-eqb, ne-eqb, lt-leb}
 use Rattle.numbers.specs.Progress.{negative}
 use Rattle.numbers.specs.Fields.{isNat, within, sameNumber}
@@ -17,15 +16,13 @@ use Rattle.rules.specs.declared.Answered.{Answered}
 use Rattle.rules.specs.Limits.{maxAmount}
 use Rattle.rules.specs.Nodes.{owned, moved, parted, marked, positionOf, middle, leftPart, rightPart}
 use Rattle.rules.specs.States.{AVAILABLE, STOLEN, EXPANDED, completed, stateOf}
-use Rattle.rules.specs.Table.{at, put, stolenIn}
+use Rattle.rules.specs.Table.{InUse, at, put, nextPair, stolenIn}
 use Rattle.rules.specs.Refusals.{ownCode, advanceCode, expandCode, kindCode, refusal}
 use Rattle.rules.specs.Requests.{refused, refusing, ranged, split, seen, batchEnd, view, nodeIn, requested}
-use Rattle.rules.proofs.Expand.{pair-fits}
-use Rattle.rules.proofs.Granted.{Advancing, Marking, after, Answers, refuses, owns, advances, marks, expands, looks, late-facts, answers}
+use Rattle.rules.proofs.Granted.{in-use, Advancing, Marking, after, Answers, refuses, owns, advances, marks, expands, looks, late-facts, answers}
 use Rattle.rules.proofs.Keeps.{requested-wf}
 use Rattle.rules.proofs.Record.{WF}
 use Rattle.rules.proofs.States.{Available, Stolen, is-available, is-stolen, is-expanded}
-use Rattle.rules.proofs.Tree.{InUse}
 use Rattle.steps.specs.Asks.{own, advance, mark, expand, look}
 
 -- the node is in use, and it has children
@@ -88,11 +85,11 @@ module _ (l : Ledger) (w : WF l) (t n : ℕ) (tl : 1 ≤ t) (th : t ≤ l .teams
       go (refuses e) = lost _ e (λ u f. e (free u f))
       go (owns k a f) =
           took (record {
-            here = record { low = a .node .low; high = a .node .high };
+            here = in-use l q a;
             was =
                 record {
                   going = f .going;
-                  plain = ap negative (w .alone n (a .node .low) (a .node .high) .unowned (f .nobody));
+                  plain = ap negative (w .alone n (in-use l q a) .unowned (f .nobody));
                   nobody = f .nobody;
                 };
           })
@@ -133,7 +130,7 @@ module _ (l : Ledger) (w : WF l) (t n : ℕ) (tl : 1 ≤ t) (th : t ≤ l .teams
       go : {u : Answered} → Answers l q u → P u
       go (refuses e) = lost _ e told
       go (owns k a f) = absurd (omega arith)
-      go (advances k a f) = took (record { here = record { low = a .node .low; high = a .node .high }; facts = f })
+      go (advances k a f) = took (record { here = in-use l q a; facts = f })
       go (marks k a f) = absurd (omega arith)
       go (expands k a f) = absurd (omega arith)
       go (looks k a) = absurd (omega arith)
@@ -167,7 +164,7 @@ module _ (l : Ledger) (w : WF l) (t n : ℕ) (tl : 1 ≤ t) (th : t ≤ l .teams
       go (refuses e) = lost _ e told
       go (owns k a f) = absurd (omega arith)
       go (advances k a f) = absurd (omega arith)
-      go (marks k a f) = took (record { here = record { low = a .node .low; high = a .node .high }; facts = f })
+      go (marks k a f) = took (record { here = in-use l q a; facts = f })
       go (expands k a f) = absurd (omega arith)
       go (looks k a) = absurd (omega arith)
 
@@ -175,7 +172,6 @@ module _ (l : Ledger) (w : WF l) (t n : ℕ) (tl : 1 ≤ t) (th : t ≤ l .teams
   pub record Splits : Type 0 where
     pub here : InUse l n
     pub was : Stolen (at l n)
-    pub fits : l .used + 2 ≤ length (l .nodes)
 
   -- it is refused without the children, or late: code 16 tells where they are
   pub record Unsplit (c : ℕ) : Type 0 where
@@ -187,8 +183,8 @@ module _ (l : Ledger) (w : WF l) (t n : ℕ) (tl : 1 ≤ t) (th : t ≤ l .teams
   pub by-expand : (P : Answered → Type 0)
       → (Splits
       → P (record {
-        ledger = after l n (parted (at l n) (l .used + 1)) (leftPart (at l n)) (rightPart (at l n));
-        answer = split (l .used + 1) (middle (at l n));
+        ledger = after l n (parted (at l n) (nextPair l)) (nextPair l) (leftPart (at l n)) (rightPart (at l n));
+        answer = split (nextPair l) (middle (at l n));
       }))
       → ((c : ℕ) → Unsplit c → P (record { ledger = l; answer = refusing (view l n) c }))
       → P (requested l (expand t n))
@@ -212,7 +208,7 @@ module _ (l : Ledger) (w : WF l) (t n : ℕ) (tl : 1 ≤ t) (th : t ≤ l .teams
       sixteen : refusal (view l n) q ≡ 16 → Parent l n
       sixteen f =
           let late = late-facts (view l n) q f in
-          record { here = record { low = late .asked .node .low; high = late .asked .node .high }; some = late .parent }
+          record { here = in-use l q (late .asked); some = late .parent }
 
       go : {u : Answered} → Answers l q u → P u
       go (refuses e) =
@@ -221,11 +217,7 @@ module _ (l : Ledger) (w : WF l) (t n : ℕ) (tl : 1 ≤ t) (th : t ≤ l .teams
       go (advances k a f) = absurd (omega arith)
       go (marks k a f) = absurd (omega arith)
       go (expands k a f) =
-          took (record {
-            here = record { low = a .node .low; high = a .node .high };
-            was = f;
-            fits = pair-fits l w n (a .node .low) (a .node .high) f;
-          })
+          took (record { here = in-use l q a; was = f })
       go (looks k a) = absurd (omega arith)
 
   -- look: what stands there, or code 4
@@ -252,4 +244,4 @@ module _ (l : Ledger) (w : WF l) (t n : ℕ) (tl : 1 ≤ t) (th : t ≤ l .teams
       go (advances k a f) = absurd (omega arith)
       go (marks k a f) = absurd (omega arith)
       go (expands k a f) = absurd (omega arith)
-      go (looks k a) = saw (record { low = a .node .low; high = a .node .high })
+      go (looks k a) = saw (in-use l q a)

@@ -2,12 +2,10 @@
 use mathlib.Core.Path.{_≡_, refl, ap, _∙_}
 use mathlib.Core.Logic.{_≢_}
 use mathlib.Core.Bool.{Bool, true, false, cond}
-use Prim.Native.Nat.{ℕ, _+_, _≤_, _<_}
+use Prim.Native.Nat.{ℕ, _≤_, _<_}
 use native.Mathlib.Omega.{arith}
-use native.Mathlib.Decide.{ℕ-discrete}
 use lib.Dec.{eqb}
 use lib.IntN.{ℤ, pos, negsuc}
-use lib.ListN.{length}
 use borrow.Author.Tests.{eqb-true, eq-eqb, ne-eqb}
 use Rattle.rules.specs.declared.Node.{Node}
 use Rattle.rules.specs.declared.Ledger.{Ledger}
@@ -16,11 +14,11 @@ use Rattle.rules.specs.declared.Answer.{Answer}
 use Rattle.rules.specs.declared.Answered.{Answered}
 use Rattle.rules.specs.Nodes.{owned, moved, parted, marked, positionOf, leftPart, rightPart}
 use Rattle.rules.specs.States.{AVAILABLE, OWNED, STOLEN, stateOf}
-use Rattle.rules.specs.Table.{at, put}
+use Rattle.rules.specs.Table.{InUse, at, put, nextPair}
 use Rattle.rules.specs.Requests.{refusing, ranged, batchEnd, view, requested}
 use Rattle.rules.proofs.Granted.{after}
 use Rattle.rules.proofs.Nodes.{at-same}
-use Rattle.rules.proofs.Record.{WF}
+use Rattle.rules.proofs.Record.{WF, in-table, no-children, left-used, right-used}
 use Rattle.rules.proofs.States.{never, is-owned, is-expanded, owned-is, stolen-is, running}
 use Rattle.steps.specs.declared.Side.{Side}
 use Rattle.steps.specs.declared.Side.the-variants.{Left, Right}
@@ -28,7 +26,6 @@ use Rattle.steps.specs.declared.Team.{Team}
 use Rattle.steps.specs.Asks.{own, advance, mark, expand, look}
 use Rattle.steps.specs.Records.{sized, split, work, childOn}
 use Rattle.steps.specs.Places.{again, grownSize, takeMoves, workMoves, claimMoves, splitMoves}
-use Rattle.rules.proofs.Tree.{InUse}
 use Rattle.steps.proofs.Stages.{Stage, hunt, taking, busy, parting, stageOf, child, Heads, works, parts, takes, Open, unmade, untaken, All, Moved, Duty, duty-same, duty-hunt, duty-taking, duty-busy, duty-parting}
 use Rattle.steps.proofs.Changes.{Older, all-keep, all-put, older-put, tended-shut, all-split, older-split}
 use Rattle.steps.proofs.Asked.{Takes, Claims, Marks, Splits, Unsplit, by-own, by-advance, by-mark, by-expand, by-look}
@@ -47,32 +44,21 @@ abbrev Then : Ledger → ℕ → Stage → (Answer → Team) → Answered → Ty
 Then l t s next u = Fair l t s (u .ledger) (stageOf (next (u .answer)))
 
 -- a child is in use
-pub is-child : (l : Ledger) → WF l → (m : ℕ) → 1 ≤ m → m ≤ l .used → 0 < at l m .left → (d : Side) → InUse l (child (at l m) d)
-is-child l w m p q h Left = let k = w .pair m p q h .inside in record { low = omega arith; high = omega arith }
-is-child l w m p q h Right = let k = w .pair m p q h .inside in record { low = omega arith; high = omega arith }
-
--- a node that is not marked has no children
-pub leaf : (l : Ledger) → WF l → (n : ℕ) → InUse l n → marked (at l n) ≡ false → at l n .left ≡ 0
-leaf l w n u f = go (ℕ-discrete (at l n .left) 0)
-  where
-    go : Dec (at l n .left ≡ 0) → at l n .left ≡ 0
-    go (yes e) = e
-    go (no ne) = let m = w .pair n (u .low) (u .high) (omega arith) .mark in never (cc)
+pub is-child : (l : Ledger) → WF l → (m : ℕ) → InUse l m → 0 < at l m .left → (d : Side) → InUse l (child (at l m) d)
+is-child l w m u h Left = left-used l w m u h
+is-child l w m u h Right = right-used l w m u h
 
 module _ (l : Ledger) (w : WF l) (t : ℕ) (tl : 1 ≤ t) (th : t ≤ l .teams) where
-  slot : (n : ℕ) → InUse l n → n ≤ length (l .nodes)
-  slot n u = omega (arith, u .high, w .slots, w .used-room, w .room-high)
-
   -- the ledger stays
-  fair-keep : (s s′ : Stage) → ((n : ℕ) → 1 ≤ n → n ≤ l .used → Duty l t s s′ n) → Fair l t s l s′
+  fair-keep : (s s′ : Stage) → ((n : ℕ) → InUse l n → Duty l t s s′ n) → Fair l t s l s′
   fair-keep s s′ duty =
       record {
-        older = λ c p q e. e;
+        older = λ c u e. e;
         keeps = λ S S′ st mv all. all-keep l w S S′ t s s′ st mv all duty;
       }
 
   pub fair-stopped : (s : Stage) → Fair l t s l s
-  fair-stopped s = fair-keep s s (λ n p q. duty-same l t n s s refl)
+  fair-stopped s = fair-keep s s (λ n u. duty-same l t n s s refl)
 
   -- what a look tells of a node in use
   record Seen (n : ℕ) (a : Answer) : Type 0 where
@@ -82,7 +68,7 @@ module _ (l : Ledger) (w : WF l) (t : ℕ) (tl : 1 ≤ t) (th : t ≤ l .teams) 
 
   -- a look changes nothing
   fair-look : (s : Stage) (n : ℕ) (next : Answer → Team)
-      → ((a : Answer) → (InUse l n → Seen n a) → (m : ℕ) → 1 ≤ m → m ≤ l .used → Duty l t s (stageOf (next a)) m)
+      → ((a : Answer) → (InUse l n → Seen n a) → (m : ℕ) → InUse l m → Duty l t s (stageOf (next a)) m)
       → Asks l t s (look t n) next
   fair-look s n next duty =
       by-look
@@ -112,16 +98,16 @@ module _ (l : Ledger) (w : WF l) (t : ℕ) (tl : 1 ≤ t) (th : t ≤ l .teams) 
       took g =
           let u = g .here in
           let st : stateOf y ≡ OWNED = owned-is y (record { going = g .was .going; plain = g .was .plain; somebody = omega arith }) in
-          let same = at-same l n y (u .low) (slot n u) in
+          let same = at-same l n y (u .low) (in-table l w n u) in
           record {
-            older = older-put l n y (u .low) (u .high) (slot n u) (omega arith);
+            older = older-put l w n y u (omega arith);
             keeps =
-                λ S S′ a mv all. all-put l w S S′ t (taking n) (busy n) a mv all n y (u .low) (u .high) (slot n u) (omega arith) (λ m p q ne. duty-taking (put l n y) t m (busy n) n (λ d h f. rw same (omega arith))) (tended-shut (put l n y) S′ n (rw same (omega arith)) (rw same (omega arith)) (λ z. rw same (mv .here)));
+                λ S S′ a mv all. all-put l w S S′ t (taking n) (busy n) a mv all n y u (omega arith) (λ m v ne. duty-taking (put l n y) t m (busy n) n (λ d h f. rw same (omega arith))) (tended-shut (put l n y) S′ n (rw same (omega arith)) (rw same (omega arith)) (λ z. rw same (mv .here)));
           }
 
       lost : (c : ℕ) → c ≢ 0 → (InUse l n → stateOf (at l n) ≢ AVAILABLE)
           → Fair l t (taking n) l (stageOf (cond (eqb c 0) (work (sized r 1) n) (again r)))
-      lost c ne gone = rw (ne-eqb c 0 ne) (fair-keep (taking n) hunt (λ m p q. duty-taking l t m hunt n (λ d h f. gone (rw f (is-child l w m p q h d)))))
+      lost c ne gone = rw (ne-eqb c 0 ne) (fair-keep (taking n) hunt (λ m v. duty-taking l t m hunt n (λ d h f. gone (rw f (is-child l w m v h d)))))
 
   -- afterwards the node is not AVAILABLE
   pub taken : (n : ℕ) → InUse l n → stateOf (at (requested l (own t n) .ledger) n) ≢ AVAILABLE
@@ -131,21 +117,18 @@ module _ (l : Ledger) (w : WF l) (t : ℕ) (tl : 1 ≤ t) (th : t ≤ l .teams) 
       took g =
           let y = owned (at l n) t in
           let st : stateOf y ≡ OWNED = owned-is y (record { going = g .was .going; plain = g .was .plain; somebody = omega arith }) in
-          rw (at-same l n y (u .low) (slot n u)) (omega arith)
+          rw (at-same l n y (u .low) (in-table l w n u)) (omega arith)
 
   -- ---- work
 
   pub fair-work : (r : Team) → Asks l t (busy (r .node)) (look t (r .node)) (workMoves t r)
   unfolding workMoves
   fair-work r =
-      fair-look (busy n) n (workMoves t r) (λ a saw m p q.
-      duty-busy l t m (stageOf (workMoves t r a)) n (λ e. mine a (saw (here e p q))) (λ e. heading a (saw (here e p q))))
+      fair-look (busy n) n (workMoves t r) (λ a saw m v.
+      duty-busy l t m (stageOf (workMoves t r a)) n (λ e. mine a (saw (rw e at v))) (λ e. heading a (saw (rw e at v))))
     where
       n : ℕ
       n = r .node
-
-      here : {m : ℕ} → m ≡ n → 1 ≤ m → m ≤ l .used → InUse l n
-      here e p q = record { low = omega arith; high = omega arith }
 
       mine : (a : Answer) → Seen n a → stateOf (at l n) ≡ OWNED → at l n .owner ≡ t → stageOf (workMoves t r a) ≡ busy n
       mine a s e f = rw (s .state ∙ e, eq-eqb (a .owner) t (s .owner ∙ f))
@@ -175,18 +158,18 @@ module _ (l : Ledger) (w : WF l) (t : ℕ) (tl : 1 ≤ t) (th : t ≤ l .teams) 
           let u = g .here in
           let mine = g .facts .mine in
           let st = running y refl (omega arith) in
-          let same = at-same l n y (u .low) (slot n u) in
+          let same = at-same l n y (u .low) (in-table l w n u) in
           record {
-            older = older-put l n y (u .low) (u .high) (slot n u) (st .0);
+            older = older-put l w n y u (st .0);
             keeps =
-                λ S S′ a mv all. all-put l w S S′ t (busy n) (busy n) a mv all n y (u .low) (u .high) (slot n u) (st .0) (λ m p h ne. duty-same (put l n y) t m (busy n) (busy n) refl) (tended-shut (put l n y) S′ n (rw same (st .1)) (rw same (st .2)) (λ z. rw same (ap S′ mine ∙ mv .here)));
+                λ S S′ a mv all. all-put l w S S′ t (busy n) (busy n) a mv all n y u (st .0) (λ m v ne. duty-same (put l n y) t m (busy n) (busy n) refl) (tended-shut (put l n y) S′ n (rw same (st .1)) (rw same (st .2)) (λ z. rw same (ap S′ mine ∙ mv .here)));
           }
 
       -- code 9: the node is not OWNED any more
-      marked-now : (c : ℕ) → c ≡ 9 → (c ≡ 9 → InUse l n → marked (at l n) ≡ true) → (m : ℕ) → 1 ≤ m → m ≤ l .used
+      marked-now : (c : ℕ) → c ≡ 9 → (c ≡ 9 → InUse l n → marked (at l n) ≡ true) → (m : ℕ) → InUse l m
           → Duty l t (busy n) (parting n Left) m
-      marked-now c e told m p q =
-          duty-busy l t m (parting n Left) n (λ f z o. clash (told e (record { low = omega arith; high = omega arith })) z) (λ f o. parts refl)
+      marked-now c e told m v =
+          duty-busy l t m (parting n Left) n (λ f z o. clash (told e (rw f at v)) z) (λ f o. parts refl)
         where
           clash : marked (at l n) ≡ true → stateOf (at l n) ≡ OWNED → parting n Left ≡ busy n
           clash m z = let p = is-owned (at l n) z .plain in never (cc)
@@ -197,7 +180,7 @@ module _ (l : Ledger) (w : WF l) (t : ℕ) (tl : 1 ≤ t) (th : t ≤ l .teams) 
         where
           by-nine : (b : Bool) → eqb c 9 ≡ b → Fair l t (busy n) l (stageOf (cond b (split r n Left) (work r n)))
           by-nine true e = fair-keep (busy n) (parting n Left) (marked-now c (eqb-true c 9 e) told)
-          by-nine false e = fair-keep (busy n) (busy n) (λ m a b. duty-same l t m (busy n) (busy n) refl)
+          by-nine false e = fair-keep (busy n) (busy n) (λ m v. duty-same l t m (busy n) (busy n) refl)
 
   -- ---- split
 
@@ -209,13 +192,13 @@ module _ (l : Ledger) (w : WF l) (t : ℕ) (tl : 1 ≤ t) (th : t ≤ l .teams) 
       n = r .node
 
       took : (g : Splits l w t n tl th)
-          → Fair l t (parting n (r .side)) (after l n (parted (at l n) (l .used + 1)) (leftPart (at l n)) (rightPart (at l n))) (taking (childOn (r .side) (l .used + 1)))
+          → Fair l t (parting n (r .side)) (after l n (parted (at l n) (nextPair l)) (nextPair l) (leftPart (at l n)) (rightPart (at l n))) (taking (childOn (r .side) (nextPair l)))
       took g =
           let u = g .here in
           record {
-            older = older-split l w n (u .low) (u .high) (g .was) (g .fits);
+            older = older-split l w n u (g .was);
             keeps =
-                λ S S′ a mv all. all-split l w n (u .low) (u .high) (g .was) (g .fits) S S′ t (r .side) a mv all (λ m p h ne. duty-parting _ t m _ n (r .side) (λ f o. absurd (ne f)));
+                λ S S′ a mv all. all-split l w n u (g .was) S S′ t (r .side) a mv all (λ m v ne. duty-parting _ t m _ n (r .side) (λ f o. absurd (ne f)));
           }
 
       heading : (c : ℕ) → Unsplit l w t n tl th c → InUse l n → Open l n (r .side)
@@ -225,17 +208,17 @@ module _ (l : Ledger) (w : WF l) (t : ℕ) (tl : 1 ≤ t) (th : t ≤ l .teams) 
 
       lost : (c : ℕ) → Unsplit l w t n tl th c → Fair l t (parting n (r .side)) l (stageOf (splitMoves r (refusing (view l n) c)))
       lost c f =
-          fair-keep (parting n (r .side)) _ (λ m p q.
-          duty-parting l t m _ n (r .side) (λ e o. heading c f (record { low = omega arith; high = omega arith }) o))
+          fair-keep (parting n (r .side)) _ (λ m v.
+          duty-parting l t m _ n (r .side) (λ e o. heading c f (rw e at v) o))
 
   -- ---- search: while it looks it owes nothing, and for a granted mark the right part
 
   pub fair-seek : (n : ℕ) (next : Answer → Team) → Asks l t hunt (look t n) next
-  fair-seek n next = fair-look hunt n next (λ a saw m p q. duty-hunt l t m _)
+  fair-seek n next = fair-look hunt n next (λ a saw m v. duty-hunt l t m _)
 
   pub fair-mark : (n : ℕ) (p : ℤ) (next : Answer → Team) → ((a : Answer) → a .code ≡ 0 → stageOf (next a) ≡ parting n Right)
       → Asks l t hunt (mark t n p) next
-  fair-mark n p next owes = by-mark l w t n tl th p (Then l t hunt next) took (λ c ne told. fair-keep hunt _ (λ m a b. duty-hunt l t m _))
+  fair-mark n p next owes = by-mark l w t n tl th p (Then l t hunt next) took (λ c ne told. fair-keep hunt _ (λ m v. duty-hunt l t m _))
     where
       y : Node
       y = moved (at l n) (negsuc (positionOf (at l n)))
@@ -248,15 +231,15 @@ module _ (l : Ledger) (w : WF l) (t : ℕ) (tl : 1 ≤ t) (th : t ≤ l .teams) 
       took g =
           let u = g .here in
           let f = g .facts in
-          let st : stateOf y ≡ STOLEN = stolen-is y (record { mark = refl; leaf = leaf l w n u (f .here .plain) }) in
+          let st : stateOf y ≡ STOLEN = stolen-is y (record { mark = refl; leaf = no-children l w n u (f .here .plain) }) in
           let was : stateOf (at l n) ≡ OWNED = owned-is (at l n) (record { going = f .here .going; plain = f .here .plain; somebody = f .somebody }) in
-          let same = at-same l n y (u .low) (slot n u) in
+          let same = at-same l n y (u .low) (in-table l w n u) in
           record {
-            older = older-put l n y (u .low) (u .high) (slot n u) (omega arith);
+            older = older-put l w n y u (omega arith);
             keeps =
-                λ S S′ a mv all. all-put l w S S′ t hunt _ a mv all n y (u .low) (u .high) (slot n u) (omega arith) (λ m p h ne. duty-hunt (put l n y) t m _) (record {
+                λ S S′ a mv all. all-put l w S S′ t hunt _ a mv all n y u (omega arith) (λ m v ne. duty-hunt (put l n y) t m _) (record {
                   mine = λ z. absurd (let k : stateOf y ≡ OWNED = rw same at z in omega arith);
-                  left = λ o. rw same (works refl (mv .there (at l n .owner) (f .other) ∙ all .tended n (u .low) (u .high) .mine was));
+                  left = λ o. rw same (works refl (mv .there (at l n .owner) (f .other) ∙ all .tended n u .mine was));
                   right = λ o. record { team = t; low = tl; high = high-put; heads = rw same (parts (mv .here ∙ owes _ refl)) };
                 });
           }

@@ -1,7 +1,7 @@
 -- A record in a run stays within its limits, so that no step of a run is refused.
 use mathlib.Core.Path.{_≡_, refl}
 use mathlib.Core.Bool.{Bool, true, false, cond}
-use Prim.Native.Nat.{ℕ, _+_, _≤_}
+use Prim.Native.Nat.{ℕ, _+_, _≤_, max}
 use native.Mathlib.Omega.{arith}
 use native.Mathlib.Decide.{ℕ-discrete}
 use lib.Dec.{eqb}
@@ -14,9 +14,10 @@ use Rattle.rules.specs.declared.Change.{Change}
 use Rattle.rules.specs.declared.Change.the-variants as change
 use Rattle.rules.specs.Requests.{refusing, seen, changed, decided, view, nodeIn, answered, requested}
 use Rattle.rules.specs.States.{AVAILABLE, STOLEN, EXPANDED, stateOf}
-use Rattle.rules.specs.Table.{at, put, grown}
+use Rattle.rules.specs.Table.{InUse, at, put, nextPair, grown}
 use Rattle.rules.proofs.Keeps.{requested-wf}
 use Rattle.rules.proofs.Record.{WF}
+use Rattle.rules.proofs.Spare.{spare}
 use Rattle.rules.proofs.States.{is-expanded}
 use Rattle.steps.specs.declared.Place.{Place}
 use Rattle.steps.specs.declared.Place.the-variants.{Seek, Take, Work, Claim, Mark, Split, Stopped}
@@ -27,7 +28,6 @@ use Rattle.steps.specs.Asks.{mark, expand, look}
 use Rattle.steps.specs.Records.{childOn, sized, take, work}
 use Rattle.steps.specs.Places.{Search, scan, searchOf, again, onward, mine, stealable, takeMoves, workMoves, claimMoves, splitMoves, seekMoves, markMoves}
 use Rattle.steps.specs.Step.{stepFrom}
-use Rattle.rules.proofs.Tree.{InUse}
 use Rattle.steps.proofs.Asked.{Parent, Unsplit, by-mark, by-expand, by-look}
 use Rattle.steps.proofs.Fair.{is-child}
 
@@ -73,7 +73,7 @@ module _ (cap : ℕ) (l : Ledger) (w : WF l) (t : ℕ) (tl : 1 ≤ t) (th : t �
 
   child-fit : Parent l n → (d : Side) → Fits (take r (childOn d (at l n .left)))
   child-fit p d =
-      let c = is-child l w n (p .here .low) (p .here .high) (p .some) d in
+      let c = is-child l w n (p .here) (p .some) d in
       to (childOn d (at l n .left)) _ (c .low) (omega (arith, c .high)) refl refl
 
   fit-take : (a : Answer) → Fits (takeMoves r a)
@@ -121,8 +121,8 @@ module _ (cap : ℕ) (l : Ledger) (w : WF l) (t : ℕ) (tl : 1 ≤ t) (th : t �
           go (yes e) = rw e (child-fit (u .told e) (r .side))
           go (no e) = rw (ne-eqb c 0 (u .some), ne-eqb c 16 e) back
 
-      new : (d : Side) → Fit cap (l .used + 2) (take r (childOn d (l .used + 1)))
-      new Left = record { low = omega arith; high = omega arith; least = f .least; most = f .most }
+      new : (d : Side) → Fit cap (max (l .used) (nextPair l + 1)) (take r (childOn d (nextPair l)))
+      new Left = record { low = omega (arith, spare l w .past); high = omega arith; least = f .least; most = f .most }
       new Right = record { low = omega arith; high = omega arith; least = f .least; most = f .most }
 
   -- ---- program 1

@@ -3,9 +3,9 @@ use mathlib.Core.Path.{_≡_, refl}
 use mathlib.Core.Logic.{_≢_}
 use mathlib.Core.Bool.{Bool, true, false, cond}
 use mathlib.Core.List.{List}
-use Prim.Native.Nat.{ℕ, zero, suc, _+_, _-_, _%_, _≤_, _<_}
+use Prim.Native.Nat.{ℕ, zero, suc, _+_, _≤_, _<_}
 use native.Mathlib.Omega.{arith}
-use native.Mathlib.Decide.{ℕ-discrete, decLe}
+use native.Mathlib.Decide.{decLe}
 use lib.Dec.{eqb}
 use borrow.Author.Tests.{eqb-true}
 use Rattle.rules.specs.declared.Node.{Node}
@@ -13,11 +13,12 @@ use Rattle.rules.specs.declared.Ledger.{Ledger}
 use Rattle.rules.specs.Count.{restOf, unclaimed}
 use Rattle.rules.specs.Nodes.{blank, leftOver}
 use Rattle.rules.specs.States.{AVAILABLE, stateOf}
-use Rattle.rules.specs.Table.{at}
+use Rattle.rules.specs.Table.{InUse, at}
 use Rattle.rules.proofs.Nodes.{at-next}
-use Rattle.rules.proofs.Range.{parent-of}
 use Rattle.rules.proofs.Record.{WF}
+use Rattle.rules.proofs.Rooted.{rooted}
 use Rattle.rules.proofs.States.{never, State, state-of, available, owning, done, stolen, expanded, claimed, expanded-is}
+use Rattle.rules.proofs.Tree.{from-root}
 use Rattle.rules.proofs.Sums.{sumBy-zero}
 use Rattle.steps.specs.declared.Place.{Place}
 use Rattle.steps.specs.declared.Place.the-variants.{Seek, Take, Work, Claim, Mark, Split, Stopped}
@@ -81,43 +82,35 @@ nobody n x d s e (takes a b) = never (cc)
 
 module _ (l : Ledger) (w : WF l) (S : ℕ → Stage) (all : All l S) (rest : (t : ℕ) → t ≤ l .teams → S t ≡ ended)
     (root : stateOf (at l 1) ≢ AVAILABLE) where
-  shut : (n : ℕ) → 1 ≤ n → n ≤ l .used → (d : Side) → Open l n d → ⊥
-  shut n p q Left o = nobody n (at l n) Left _ (rest (at l n .owner) (w .alone n p q .owner)) (all .tended n p q .left o)
-  shut n p q Right o = let h = all .tended n p q .right o in nobody n (at l n) Right _ (rest (h .team) (h .high)) (h .heads)
+  shut : (n : ℕ) → InUse l n → (d : Side) → Open l n d → ⊥
+  shut n u Left o = nobody n (at l n) Left _ (rest (at l n .owner) (w .alone n u .owner)) (all .tended n u .left o)
+  shut n u Right o = let h = all .tended n u .right o in nobody n (at l n) Right _ (rest (h .team) (h .high)) (h .heads)
 
   -- no child is AVAILABLE
-  no-child : (m : ℕ) → 1 ≤ m → m ≤ l .used → 0 < at l m .left → (d : Side) → stateOf (at l (child (at l m) d)) ≢ AVAILABLE
-  no-child m p q h d e =
-      shut m p q d (untaken (expanded-is (at l m) (record { mark = w .pair m p q h .mark; parent = h })) e)
+  no-child : (m : ℕ) → InUse l m → 0 < at l m .left → (d : Side) → stateOf (at l (child (at l m) d)) ≢ AVAILABLE
+  no-child m u h d e =
+      shut m u d (untaken (expanded-is (at l m) (record { mark = w .pair m u h .mark; parent = h })) e)
 
   -- nor is any node
-  taken : (n : ℕ) → 1 ≤ n → n ≤ l .used → stateOf (at l n) ≢ AVAILABLE
-  taken n p q e = go (ℕ-discrete n 1) (ℕ-discrete (n % 2) 0)
-    where
-      go : Dec (n ≡ 1) → Dec (n % 2 ≡ 0) → ⊥
-      go (yes f) d = root (rw f at e)
-      go (no f) (yes even) =
-          let m = parent-of l w n p (omega (arith, w .odd)) even in
-          let is = m .is in
-          let before = m .before in
-          no-child (m .node) (m .low) (omega arith) (omega arith) Left (rw is e)
-      go (no f) (no odd) =
-          let m = parent-of l w (n - 1) (omega arith) (omega arith) (omega arith) in
-          let is = m .is in
-          let before = m .before in
-          let c : n - 1 + 1 ≡ n = omega arith in
-          no-child (m .node) (m .low) (omega arith) (omega arith) Right (rw (is, c) e)
+  taken : (n : ℕ) → InUse l n → stateOf (at l n) ≢ AVAILABLE
+  taken =
+      from-root
+      l
+      (λ (n : ℕ). stateOf (at l n) ≢ AVAILABLE)
+      (λ n c u some is h. (rw is at (no-child n u (omega arith) Left), rw is at (no-child n u (omega arith) Right)))
+      (rooted l w)
+      root
 
-  rest-zero : (n : ℕ) → 1 ≤ n → n ≤ l .used → restOf (at l n) ≡ 0
+  rest-zero : (n : ℕ) → InUse l n → restOf (at l n) ≡ 0
   unfolding restOf
-  rest-zero n p q = split-on (eqb (at l n .left) 0) refl
+  rest-zero n u = split-on (eqb (at l n .left) 0) refl
     where
       go : {k : ℕ} → stateOf (at l n) ≡ k → State (at l n) k → at l n .left ≡ 0 → leftOver (at l n) ≡ 0
-      go e (available a) z = absurd (taken n p q e)
+      go e (available a) z = absurd (taken n u e)
       go e (owning a) z =
-          absurd (let f = all .tended n p q .mine e in let g = rest (at l n .owner) (w .alone n p q .owner) in never (cc))
+          absurd (let f = all .tended n u .mine e in let g = rest (at l n .owner) (w .alone n u .owner) in never (cc))
       go e (done a) z = omega (arith, claimed (at l n) a)
-      go e (stolen a) z = absurd (shut n p q Left (unmade e))
+      go e (stolen a) z = absurd (shut n u Left (unmade e))
       go e (expanded a) z = absurd (omega (arith, a .parent))
 
       split-on : (b : Bool) → eqb (at l n .left) 0 ≡ b → cond b (leftOver (at l n)) 0 ≡ 0
@@ -133,7 +126,7 @@ module _ (l : Ledger) (w : WF l) (S : ℕ → Stage) (all : All l S) (rest : (t 
   nothing-unclaimed = sumBy-zero restOf (l .nodes) blank (λ i h. rw (← at-next l i) (go i (decLe (i + 1) (l .used))))
     where
       go : (i : ℕ) → Dec (i + 1 ≤ l .used) → restOf (at l (i + 1)) ≡ 0
-      go i (yes q) = rest-zero (i + 1) (omega arith) q
+      go i (yes q) = rest-zero (i + 1) (record { low = omega arith; high = q })
       go i (no q) = rw (w .blank (i + 1) (omega arith)) blank-zero
 
 -- ---- the theorem
@@ -149,7 +142,7 @@ at-rest u g s = nothing-unclaimed (u .ledger) (g .wf) (stages (u .records)) (g .
     hopeless (searching a h) e = let z : hunt ≡ ended = rw a at e in never (cc)
 
     root : stateOf (at (u .ledger) 1) ≢ AVAILABLE
-    root e = hopeless (g .root e 1 (omega arith) (g .wf .teams-low)) (rest 1 (g .wf .teams-low))
+    root e = hopeless (g .root e 1 (omega arith) (g .wf .limits .teams-low)) (rest 1 (g .wf .limits .teams-low))
 
 pub nothing-left : NothingLeft
 nothing-left o rs steps ok fresh s = at-rest _ (run-good steps _ (begun-good o rs ok fresh)) s

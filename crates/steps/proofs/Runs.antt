@@ -3,7 +3,7 @@ use mathlib.Core.Path.{_≡_, refl, ap, _∙_}
 use mathlib.Core.Logic.{_≢_}
 use mathlib.Core.Bool.{true}
 use mathlib.Core.List.{List, [], _∷_}
-use Prim.Native.Nat.{ℕ, zero, suc, _-_, _≤_}
+use Prim.Native.Nat.{ℕ, zero, suc, _-_, _≤_, _<_}
 use native.Mathlib.Omega.{arith}
 use native.Mathlib.Decide.{ℕ-discrete}
 use lib.IntN.{ℤ, pos}
@@ -22,12 +22,13 @@ use Rattle.rules.specs.Limits.{opens}
 use Rattle.rules.specs.Opening.{opened, ledgerOf}
 use Rattle.rules.specs.Requests.{changed, decided, view, nodeIn, answered, requested}
 use Rattle.rules.specs.States.{AVAILABLE, stateOf}
-use Rattle.rules.specs.Table.{at, put, grown}
+use Rattle.rules.specs.Table.{InUse, at, put, grown}
 use Rattle.rules.proofs.Keeps.{wf-answered, requested-wf}
 use Rattle.rules.proofs.Opens.{opened-wf, opened-root}
-use Rattle.rules.proofs.Range.{parent-of}
-use Rattle.rules.proofs.Record.{WF}
+use Rattle.rules.proofs.Record.{WF, no-children, root-used}
+use Rattle.rules.proofs.Rooted.{rooted}
 use Rattle.rules.proofs.States.{never, is-available}
+use Rattle.rules.proofs.Tree.{from-root}
 use Rattle.rules.proofs.Tests.{passed}
 use Rattle.steps.specs.declared.Place.{Place}
 use Rattle.steps.specs.declared.Place.the-variants.{Seek, Take, Work, Claim, Mark, Split, Stopped}
@@ -39,7 +40,7 @@ use Rattle.steps.specs.Step.{stepFrom, stepAt, unmoved, lentTests, lentC
 use Rattle.steps.specs.Run.{Run, Due, FreshFor, begun, stepTeam, runSteps}
 use Rattle.steps.proofs.Stages.{Stage, ended, stageOf, stageAt, Tended, All, Moved}
 use Rattle.steps.proofs.Changes.{tended-shut, fresh-states}
-use Rattle.steps.proofs.Fair.{Fair, fair-stopped, fair-take, fair-work, fair-claim, fair-split, fair-seek, fair-mark, taken, leaf}
+use Rattle.steps.proofs.Fair.{Fair, fair-stopped, fair-take, fair-work, fair-claim, fair-split, fair-seek, fair-mark, taken}
 use Rattle.steps.proofs.Seeks.{Hopeful, will-take, searching, sought, begins}
 
 -- ---- the stages of a table of records
@@ -70,19 +71,13 @@ moved rs t r a b =
 -- ---- a lone root
 
 -- while nobody has the root, there is no other node
-pub lone-root : (l : Ledger) → WF l → stateOf (at l 1) ≡ AVAILABLE → l .used ≡ 1
-lone-root l w e = go (ℕ-discrete (l .used) 1)
+pub lone-root : (l : Ledger) → WF l → stateOf (at l 1) ≡ AVAILABLE → (n : ℕ) → InUse l n → n ≡ 1
+lone-root l w e = from-root l (λ (n : ℕ). n ≡ 1) (λ n c u some is one. absurd (no-child n c u some is one)) (rooted l w) refl
   where
-    childless : at l 1 .left ≡ 0
-    childless = leaf l w 1 (record { low = omega arith; high = omega (arith, w .odd) }) (is-available (at l 1) e .plain)
-
-    go : Dec (l .used ≡ 1) → l .used ≡ 1
-    go (yes f) = f
-    go (no f) =
-        let p = parent-of l w 2 (omega arith) (omega (arith, w .odd)) refl in
-        let one : p .node ≡ 1 = omega (arith, p .low, p .before) in
-        let z : at l 1 .left ≡ 2 = rw one at (p .is) in
-        absurd (omega (arith, childless))
+    no-child : (n c : ℕ) → InUse l n → 0 < c → at l n .left ≡ c → n ≡ 1 → ⊥
+    no-child n c u some is one =
+        let plain = is-available (at l 1) e .plain in
+        omega (arith, no-children l w n u (rw one plain))
 
 -- ---- one step
 
@@ -143,7 +138,7 @@ module _ (cap t : ℕ) (l : Ledger) (w : WF l) (r : Team) where
     step-hope Seek e (will-take f n) free still = never (cc)
     step-hope Seek e (searching f h) free still = sought t r .hopes l w tl th free (lone-root l w free) h
     step-hope Take e (will-take f n) free still =
-        absurd (taken l w t tl th 1 (record { low = omega arith; high = omega (arith, w .odd) }) (rw n at still))
+        absurd (taken l w t tl th 1 (root-used l w) (rw n at still))
     step-hope Take e (searching f h) free still = never (cc)
     step-hope Work e (will-take f n) free still = never (cc)
     step-hope Work e (searching f h) free still = never (cc)
@@ -244,7 +239,7 @@ module _ (cap : ℤ) (u : Run) (g : Good u) (t : ℕ) (tl : 1 ≤ t) (th : t ≤
   hoped e k a b = go (ℕ-discrete k t)
     where
       free : stateOf (at l 1) ≡ AVAILABLE
-      free = fair .older 1 (omega arith) (omega (arith, g .wf .odd)) e
+      free = fair .older 1 (root-used l (g .wf)) e
 
       go : Dec (k ≡ t) → Hopeful (at-team (set rs (t - 1) (v .team)) k)
       go (yes f) =
@@ -286,7 +281,7 @@ begun-good o rs ok f =
     record {
       wf = opened-wf o ok;
       size = omega (arith, f .enough, opened-teams o);
-      all = record { tended = λ n p q. let e : n ≡ 1 = omega (arith, opened-used o) in rw e first };
+      all = record { tended = λ n u. let e : n ≡ 1 = omega (arith, u .low, u .high, opened-used o) in rw e first };
       root = λ e k p q. rw (f .each k p (omega (arith, opened-teams o))) (searching refl begins);
     }
   where

@@ -1,15 +1,14 @@
 -- What the search of a record must do for the theorem: after a granted mark it heads for the right part, and while nobody has the root it
 -- comes to take it. Each program is shown to do it, and with them every record.
-use mathlib.Core.Path.{_≡_, refl, ap, _∙_}
+use mathlib.Core.Path.{_≡_, refl, _∙_}
 use Prim.Native.Nat.{ℕ, _≤_}
-use native.Mathlib.Omega.{arith}
 use Rattle.rules.specs.declared.Ledger.{Ledger}
 use Rattle.rules.specs.declared.Answer.{Answer}
 use Rattle.rules.specs.declared.Answered.{Answered}
 use Rattle.rules.specs.States.{AVAILABLE, stateOf}
-use Rattle.rules.specs.Table.{at}
+use Rattle.rules.specs.Table.{InUse, at}
 use Rattle.rules.specs.Requests.{requested}
-use Rattle.rules.proofs.Record.{WF}
+use Rattle.rules.proofs.Record.{WF, root-used}
 use Rattle.steps.specs.declared.Place.the-variants.{Seek, Take}
 use Rattle.steps.specs.declared.Side.the-variants.{Right}
 use Rattle.steps.specs.declared.Team.{Team}
@@ -35,7 +34,7 @@ pub record Seeks (s : Search) (t : ℕ) (r : Team) : Type 0 where
       → 1 ≤ t
       → t ≤ l .teams
       → stateOf (at l 1) ≡ AVAILABLE
-      → l .used ≡ 1
+      → ((n : ℕ) → InUse l n → n ≡ 1)
       → Hope r
       → Hopeful (s .seeking t r (requested l (look t (r .node)) .answer))
 
@@ -56,7 +55,7 @@ module _ (t : ℕ) (r : Team) where
       th
       (λ (u : Answered). Hopeful (seekMoves t r (u .answer)))
       (λ u. rw (one, free) (will-take refl (is ∙ one)))
-      (λ none. absurd (none (record { low = omega arith; high = omega (arith, w .odd) })))
+      (λ none. absurd (none (rw one (root-used l w))))
 
   scan-seeks : Seeks scan t r
   unfolding markMoves

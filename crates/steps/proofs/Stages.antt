@@ -7,7 +7,7 @@ use native.Mathlib.Decide.{ℕ-discrete}
 use Rattle.rules.specs.declared.Node.{Node}
 use Rattle.rules.specs.declared.Ledger.{Ledger}
 use Rattle.rules.specs.States.{AVAILABLE, OWNED, STOLEN, EXPANDED, stateOf}
-use Rattle.rules.specs.Table.{at}
+use Rattle.rules.specs.Table.{InUse, at}
 use Rattle.rules.proofs.States.{never, is-stolen}
 use Rattle.steps.specs.declared.Place.{Place}
 use Rattle.steps.specs.declared.Place.the-variants.{Seek, Take, Work, Claim, Mark, Split, Stopped}
@@ -63,7 +63,7 @@ pub record Tended (l : Ledger) (S : ℕ → Stage) (n : ℕ) : Type 0 where
   pub right : Open l n Right → Headed (l .teams) n (at l n) S
 
 pub record All (l : Ledger) (S : ℕ → Stage) : Type 0 where
-  pub tended : (n : ℕ) → 1 ≤ n → n ≤ l .used → Tended l S n
+  pub tended : (n : ℕ) → InUse l n → Tended l S n
 
 -- the team t moves to the stage s, and no other moves
 pub record Moved (S S′ : ℕ → Stage) (t : ℕ) (s : Stage) : Type 0 where

@@ -22,7 +22,8 @@ use Rattle.rules.specs.Requests.{refusing, outcome, owning, advancing, marking,
 use Rattle.rules.specs.Table.{at}
 use Rattle.rules.specs.WellFormed.{wellFormed}
 use Rattle.rules.proofs.Keeps.{requested-wf}
-use Rattle.rules.proofs.Record.{WF, rules}
+use Rattle.rules.proofs.Record.{WF, rules, used-high}
+use Rattle.rules.proofs.Spare.{spare}
 use Rattle.rules.proofs.Tests.{passed}
 use Rattle.ledger.proofs.Laws.{until-small}
 use Rattle.steps.specs.declared.Team.{Team}
@@ -64,7 +65,7 @@ module _ (l : Ledger) (slots : length (l .nodes) ≡ 1023) (formed : wellFormed 
     where
       go : Dec (n ≤ l .used) → Dec (0 < at l n .left) → at l n .left ≤ maxNode
       go (no h) d = rw (w .blank n (omega arith)) (omega arith)
-      go (yes h) (yes k) = omega (arith, w .pair n low h k .inside, w .used-room, w .room-high)
+      go (yes h) (yes k) = omega (arith, w .pair n (record { low = low; high = h }) k .inside, used-high l w)
       go (yes h) (no k) = omega arith
 
   any-child-small : (n : ℕ) → at l n .left ≤ maxNode
@@ -85,7 +86,7 @@ module _ (l : Ledger) (slots : length (l .nodes) ≡ 1023) (formed : wellFormed 
         limited = limited;
         until-high = until-small l slots formed n;
         left-high = any-child-small n;
-        pair-high = omega (arith, w .used-room, w .room-high);
+        pair-high = omega (arith, spare l w .next, used-high l w);
       }
 
   pub answer-small : (q : Request) → requested l q .answer .left ≤ maxNode
@@ -93,7 +94,7 @@ module _ (l : Ledger) (slots : length (l .nodes) ≡ 1023) (formed : wellFormed 
   answer-small q =
       rw
       (requested-wf l q w)
-      (left-small (view l (nodeIn q)) q maxNode (any-child-small (nodeIn q)) (omega (arith, w .used-room, w .room-high)))
+      (left-small (view l (nodeIn q)) q maxNode (any-child-small (nodeIn q)) (omega (arith, spare l w .next, used-high l w)))
 
 -- ---- a step's parts put together
 
@@ -156,5 +157,5 @@ passes l slots number cap r e =
     let n = within-true number 1 (l .teams) (not-false (within number 1 (l .teams)) (t .1 .0)) in
     record {
       formed = formed;
-      limited = fit-limits (natOf number) cap r (omega (arith, n .high, rules l slots formed .teams-high)) (t .1 .1 .0);
+      limited = fit-limits (natOf number) cap r (omega (arith, n .high, rules l slots formed .limits .teams-high)) (t .1 .1 .0);
     }

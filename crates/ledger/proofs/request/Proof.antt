@@ -46,9 +46,7 @@ request-spec =
     (λ c κs. tt)
     (λ c κs. used-small (c .before .before .before .before .args .l) (numbers-first (c .before .before .before .before .args .l) (sym (c .before .before .before .well-formed .ensures) ∙ c .before .before .if1 .taken)))
     (λ c κs. tt)
-    (λ c κs.
-    let l = c .before .before .before .before .before .before .before .args .l in
-    (used-small l (numbers-first l (formed (c .before))), stores (c .before)))
+    (λ c κs. stores (c .before))
     (λ c κs. tt)
     (λ c. chosen _ _ _ _ (formed (c .before .before)) (cc (decision (c .before .before), told (c .before .before .before .before .before .before .before .before .args .r .node) (c .before .before .before .before .before .struct-told .given .1 .1 .0 .1))))
     (λ c. passed-by _ _ _ _ (sym (c .before .before .well-formed .ensures) ∙ c .before .if1 .left) (cc)))

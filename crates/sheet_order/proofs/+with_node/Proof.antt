@@ -46,10 +46,10 @@ unfolding at
     (with-node-at t)
     with-node.Post
     (λ c. let a = c .before .args in node-none (a .row) (a .depth) (a .t3) (grantedTo (a .granted .items) (a .granted .count)) (a .n) (c .if1 .taken))
-    (λ c. c .before .pre .1 .low)
+    (λ c. c .before .pre .1 .used .low)
     (λ c. omega (arith, c .before .fits .n))
     (λ c. let s = c .before in omega (arith, slot-small (s .args .t3) (s .args .granted) (s .args .n) (s .pre .1)))
-    (λ c. let s = c .before in omega (arith, slot-small (s .args .t3) (s .args .granted) (s .args .n) (s .pre .1), s .pre .1 .low))
+    (λ c. let s = c .before in omega (arith, slot-small (s .args .t3) (s .args .granted) (s .args .n) (s .pre .1), s .pre .1 .used .low))
     (λ c κs. c .before .before .pre .1 .grants)
     (λ c κs. tt)
     (λ c κs. tt)

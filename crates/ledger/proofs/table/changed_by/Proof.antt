@@ -9,9 +9,9 @@ unfolding changed
 changed-by-spec = tie.close (tie.spec
     (λ c. search needs)
     (λ c. search needs)
-    (λ c κs. rw (c .before .c .given .1) at (c .before .before .before .pre .1))
+    (λ c κs. rw (c .before .c .given .1) at (c .before .before .before .pre))
     (λ c. search needs)
-    (λ c κs. (c .before .before .before .pre .0, rw (c .before .c2 .given .1) at (c .before .before .before .pre .1)))
+    (λ c κs. rw (c .before .c2 .given .1) at (c .before .before .before .pre))
     (λ c. rw (c .enum-told .given .1))
     (λ c. rw (c .before .before .c .given .1) (c .with-node .ensures))
     (λ c. rw (c .before .before .c2 .given .1) (c .split-at .ensures)))

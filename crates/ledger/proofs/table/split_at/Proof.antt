@@ -1,14 +1,13 @@
 -- The parent and its two children are stored.
 use borrow.Author.Needs.{needs}
-use Rattle.rules.specs.Table.{put}
 use Rattle.ledger.proofs.table.split_at.Statement.{statement}
 use Rattle.ledger.proofs.table.split_at.Tie as tie
 
 pub split-at-spec : {M : Type 1} → statement M
 split-at-spec = tie.close (tie.spec
-    (λ c κs. c .pre .1 .0)
-    (λ c κs. c .before .pre .1 .1)
+    (λ c κs. c .pre .0)
+    (λ c κs. c .before .pre .1)
     (λ c. search needs)
-    (λ c κs. c .before .before .pre .1 .2)
-    (λ c κs. rw (c .with-node3 .ensures, c .before .with-node2 .ensures, c .before .before .with-node .ensures) (unfold put in (c .before .before .before .pre .0)))
+    (λ c κs. c .before .before .pre .2)
+    (λ c κs. c .before .before .before .pre .1)
     (λ c. cc))

@@ -135,7 +135,7 @@ place-inside : (c : Moved-here) → placed c .node-slot .result < 1023
 place-inside c = omega (arith, placed c .node-slot .ensures)
 
 few : (c : Moved-here) → at c .loop .stolen ≤ 1023
-few c = let w = stands (at c) .wf in omega (arith, at c .loop .inv .3, w .loaded, w .room-high)
+few c = let w = stands (at c) .wf in omega (arith, at c .loop .inv .3, w .loaded, w .limits .room-high)
 
 turns : (c : Moved-here)
     → (called c .turn .result ≡ taken (begins (at c .before)) (schedule (read c)) (at c .loop .i) (less (read c)) (at c .loop .book) (at c .loop .teams) (at c .loop .inv .4) (mine (read c)))
@@ -191,7 +191,7 @@ Split-here = tie.After-recount2 Inv-loop μ-loop
 abbrev from-split : Split-here → Moved-here
 from-split c = c .before .before .before .before
 
-pair-of : (c : Split-here) → let f = c .before .before .change2 .given .0 .1 .0 in (f ≡ at (from-split c) .loop .book .used + 1) × (at (from-split c) .loop .book .used + 2 ≤ 1023)
+pair-of : (c : Split-here) → let f = c .before .before .change2 .given .0 .1 .0 in (1 ≤ f) × (f + 1 ≤ 1023)
 pair-of c = stores (from-split c) .pair _ _ _ _ (c .before .before .change2 .given .1)
 
 natural-requires : tie.Need-natural-requires Inv-loop μ-loop
@@ -238,7 +238,7 @@ node-for-requires : tie.Need-node-for-requires Inv-loop μ-loop
 node-for-requires c κs = search needs
 
 view-by-requires : tie.Need-view-by-requires Inv-loop μ-loop
-view-by-requires c κs = let w = stands (c .before .before .before .before .before .before .before) .wf in omega (arith, w .used-room, w .room-high)
+view-by-requires c κs = let w = stands (c .before .before .before .before .before .before .before) .wf in omega (arith, w .used-room, w .limits .room-high)
 
 natural-requires-2 : tie.Need-natural-requires-2 Inv-loop μ-loop
 natural-requires-2 c κs = search needs
@@ -325,7 +325,7 @@ loop-again-3 : tie.Need-loop-again-3 Inv-loop μ-loop
 loop-again-3 c = let m = from-split c in let p = prints m in let f = stores m .split _ _ _ _ _ (c .before .before .change2 .given .1) (c .recount2 .ensures) in (p .0, p .1, p .2, f .0, f .1, p .3)
 
 close-requires : tie.Need-close-requires Inv-loop μ-loop
-close-requires c κs = let a = c .before .before in let h = stands a in let w = h .wf in (a .loop .inv .2, rules-back (a .loop .book) w, w .teams-high)
+close-requires c κs = let a = c .before .before in let h = stands a in let w = h .wf in (a .loop .inv .2, rules-back (a .loop .book) w, w .limits .teams-high)
 
 same-length : tie.Need-same-length Inv-loop μ-loop
 same-length c = search needs
