@@ -5,7 +5,7 @@ use mathlib.Core.List.{List, _∷_}
 use Prim.Native.Nat.{ℕ, suc, _≤_}
 use native.Mathlib.Decide.{decLe}
 use native.Mathlib.Omega.{arith}
-use lib.ListN.{length, set, replicate}
+use lib.ListN.{set, replicate}
 use Rattle.numbers.specs.Fields.{natOf}
 use Rattle.rules.specs.declared.Node.{Node}
 use Rattle.rules.specs.declared.Ledger.{Ledger}
@@ -18,7 +18,7 @@ use Rattle.rules.proofs.Range.{within-range}
 use Rattle.rules.specs.Nodes.{blank, fresh}
 use Rattle.rules.specs.Opening.{opened, ledgerOf}
 use Rattle.rules.specs.Table.{InUse, at}
-use Rattle.rules.specs.WellFormed.{numbersRule, wellFormed}
+use Rattle.rules.specs.WellFormed.{numbersRule, wellFormed, Sound}
 
 -- an opening within its limits starts within them
 pub start-small : (o : Opening) → opens o ≡ true → natOf (o .start) ≤ 2147483647
@@ -29,11 +29,11 @@ unfolding wellFormed
 numbers-first l e = both (numbersRule l) _ .0 e .0
 
 -- no node of a well-formed ledger, in use or not, ends past the largest until
-pub until-small : (l : Ledger) → length (l .nodes) ≡ 1023 → wellFormed l ≡ true → (n : ℕ) → at l n .until ≤ 2147483647
-until-small l slots e n = go (decLe n (l .used)) (decLe 1 n)
+pub until-small : (l : Ledger) → Sound l → (n : ℕ) → at l n .until ≤ 2147483647
+until-small l s n = go (decLe n (l .used)) (decLe 1 n)
   where
     w : WF l
-    w = rules l slots e
+    w = rules l s
 
     of-slot : (k : ℕ) → InUse l k → at l k .until ≤ 2147483647
     of-slot k u = omega (arith, within-range l w k u .high, w .limits .until-limit)

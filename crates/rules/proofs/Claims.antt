@@ -4,20 +4,18 @@ use mathlib.Core.Bool.{Bool, true, false, cond}
 use Prim.Native.Nat.{ℕ, _+_, _*_}
 use native.Mathlib.Omega.{arith}
 use lib.IntN.{pos, negsuc}
-use lib.ListN.{length}
 use Rattle.numbers.specs.Fields.{natOf}
 use Rattle.rules.specs.declared.Ledger.{Ledger}
 use Rattle.rules.specs.declared.Request.{Request}
 use Rattle.rules.specs.declared.Answered.{Answered}
-use Rattle.rules.specs.Limits.{maxNodes}
 use Rattle.rules.specs.Moves.{byKind}
 use Rattle.rules.specs.Nodes.{moved, parted, positionOf, middle, leftPart, rightPart}
 use Rattle.rules.specs.Requests.{refused, ranged, split, batchEnd, nodeIn, answered, requested}
 use Rattle.rules.specs.Sheet40.{IsGranted, ClaimGranted, MarkGranted, SplitGranted}
 use Rattle.rules.specs.Table.{at, put, nextPair, stolenIn}
-use Rattle.rules.specs.WellFormed.{wellFormed}
+use Rattle.rules.specs.WellFormed.{wellFormed, Sized}
 use Rattle.rules.proofs.Granted.{Asked, Advancing, Marking, after as splitAt, Answers, refuses, owns, advances, marks, expands, looks, answers}
-use Rattle.rules.proofs.Record.{WF, rules}
+use Rattle.rules.proofs.Record.{WF, rules, both-sound}
 use Rattle.rules.proofs.States.{Stolen}
 
 -- a request that is granted finds the ledger well formed, and so is answered by its own tests
@@ -78,5 +76,5 @@ module _ (l : Ledger) (r : Request) where
   pub is-parted : SplitGranted l r → Parted l r (requested l r)
   is-parted g = is-granted 4 g
 
-  pub granted-wf : (kind : ℕ) → length (l .nodes) ≡ maxNodes → IsGranted kind l r → WF l
-  granted-wf kind slots g = rules l slots (granted-answered l r (g .code-is) .0)
+  pub granted-wf : (kind : ℕ) → Sized l → IsGranted kind l r → WF l
+  granted-wf kind sized g = rules l (both-sound sized (granted-answered l r (g .code-is) .0))

@@ -13,7 +13,7 @@ use Rattle.rules.specs.Nodes.{middle}
 use Rattle.rules.specs.Sheets.{CountAtMost, CountFits}
 use Rattle.rules.specs.Table.{at}
 use Rattle.rules.specs.WellFormed.{wellFormed}
-use Rattle.rules.proofs.Record.{WF, rules}
+use Rattle.rules.proofs.Record.{WF, rules, both-sound}
 use Rattle.rules.proofs.Rooted.{rooted}
 use Rattle.rules.proofs.Tree.{Tree, leaf, fork}
 use Rattle.rules.proofs.TreeSum.{sumTree, tree-sum}
@@ -35,15 +35,17 @@ module _ (l : Ledger) (w : WF l) where
   at-most = omega (arith, tree-sum l w restOf refl, below (rooted l w .tree), w .root-start, w .root-until)
 
 pub count-at-most : CountAtMost
-count-at-most l slots e = at-most l (rules l slots e)
+count-at-most l s = at-most l (rules l s)
 
 pub count-fits : CountFits
 unfolding counted
-count-fits l slots = go (wellFormed l) refl
+count-fits l sized = go (wellFormed l) refl
   where
     given : Bool → Unclaimed
     given b = cond b (record { code = 0; count = unclaimed l }) (record { code = 1; count = 0 })
 
     go : (b : Bool) → wellFormed l ≡ b → given b .count ≤ maxUntil
-    go true e = omega (arith, count-at-most l slots e, rules l slots e .limits .until-limit)
+    go true e =
+        let s = both-sound sized e in
+        omega (arith, count-at-most l s, rules l s .limits .until-limit)
     go false e = omega arith

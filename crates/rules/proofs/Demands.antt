@@ -39,8 +39,8 @@ opening-well-formed o = go (opens o) refl
     go false e z = absurd (omega arith)
 
 pub requests-keep-well-formed : RequestsKeepWellFormed
-requests-keep-well-formed l r slots e =
-    let w = rules l slots e in
+requests-keep-well-formed l r sound =
+    let w = rules l sound in
     rw (requested-wf l r w) (rules-back (answered l r .ledger) (wf-answered l r w))
 
 pub refusals-change-nothing : RefusalsChangeNothing
@@ -60,18 +60,18 @@ told w (expands k q f) e = absurd (omega arith)
 told w (looks k q) e = absurd (omega arith)
 
 pub late-splitter-told : LateSplitterTold
-late-splitter-told l r slots e = let w = rules l slots e in rw (requested-wf l r w) (told w (answers l r))
+late-splitter-told l r sound = let w = rules l sound in rw (requested-wf l r w) (told w (answers l r))
 
 pub room-for-every-split : RoomForEverySplit
-room-for-every-split l n slots e u s =
-    let w = rules l slots e in
+room-for-every-split l n sound u s =
+    let w = rules l sound in
     record { fits = pair-room l w n u (is-stolen (at l n) s); left = left-blank l w; right = right-blank l w }
 
 pub owned-has-some : OwnedHasSome
-owned-has-some l n slots e u s =
+owned-has-some l n sound u s =
     let x = at l n in
     let o = is-owned x s in
-    omega (arith, rules l slots e .alone n u .high, not-yet (x .progress) (x .until) (o .plain) (o .going))
+    omega (arith, rules l sound .alone n u .high, not-yet (x .progress) (x .until) (o .plain) (o .going))
 
 pub last-sheet : LastSheet
 unfolding leftPart rightPart middle
@@ -80,9 +80,9 @@ last-sheet x one =
     (ap (λ (m : ℕ). fresh (positionOf x) m) same, ap (λ (m : ℕ). fresh m (x .until)) same)
 
 pub empty-never-owned : EmptyNeverOwned
-empty-never-owned l n slots e u empty =
+empty-never-owned l n sound u empty =
     let x = at l n in
-    let alone = rules l slots e .alone n u in
+    let alone = rules l sound .alone n u in
     let nobody = alone .empty empty in
     (completed-is x (rw (alone .unowned nobody ∙ ap pos empty) (isNat-made (x .until))), nobody)
 
@@ -98,4 +98,4 @@ follow l r w =
     })
 
 pub requests-follow-moves : RequestsFollowMoves
-requests-follow-moves l r slots e = follow l r (rules l slots e)
+requests-follow-moves l r sound = follow l r (rules l sound)

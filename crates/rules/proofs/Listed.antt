@@ -34,8 +34,8 @@ listed-lists-at l bs (suc depth) (fork {n = n} {c = c} u some e x y) h =
     rw (ne-eqb (at l n .left) 0 ne) (parts {n = n} (omega arith) a b)
 
 pub listed-lists : ListedLists
-listed-lists l bs slots e =
-    let r = rooted l (rules l slots e) in
+listed-lists l bs s =
+    let r = rooted l (rules l s) in
     listed-lists-at l bs (l .used) (r .tree) (rooted-size l r)
 
 pub listed-examples : ListedExamples

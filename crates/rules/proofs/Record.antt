@@ -13,7 +13,7 @@ use Rattle.rules.specs.declared.Ledger.{Ledger}
 use Rattle.rules.specs.Limits.{opens, maxUntil, maxTeams, maxNodes}
 use Rattle.rules.specs.Nodes.{blank, marked, unowned, positionOf, middle}
 use Rattle.rules.specs.Table.{InUse, at, sumBy, stolenIn}
-use Rattle.rules.specs.WellFormed.{wellFormed, nodeRule, aloneRule, childRule, pairRule, unusedRule, isBlank, leftIs}
+use Rattle.rules.specs.WellFormed.{wellFormed, Sized, Sound, nodeRule, aloneRule, childRule, pairRule, unusedRule, isBlank, leftIs}
 use Rattle.rules.proofs.Facts.{facts, both, either, leb-f}
 use Rattle.rules.proofs.Nodes.{at-out}
 
@@ -91,7 +91,7 @@ pub record Limited (start until teams room : ℕ) : Type 0 where
 
 pub record WF (l : Ledger) : Type 0 where
   pub limits : Limited (l .start) (l .until) (l .teams) (l .room)
-  pub slots : length (l .nodes) ≡ maxNodes
+  pub slots : Sized l
   pub odd : l .used % 2 ≡ 1
   pub used-room : l .used ≤ l .room
   pub root-start : at l 1 .start ≡ l .start
@@ -165,12 +165,12 @@ tested-back l h =
     let k = h .limits in
     simp (facts, node-t l, pair-t l, unused-t l) (search (zero-le, lit≤))
 
-pub rules : (l : Ledger) → length (l .nodes) ≡ maxNodes → wellFormed l ≡ true → WF l
-rules l slots e =
-    let t = tested l e in
+pub rules : (l : Ledger) → Sound l → WF l
+rules l s =
+    let t = tested l (s .formed) in
     record {
       limits = t .limits;
-      slots = slots;
+      slots = s .sized;
       odd = t .odd;
       used-room = t .used-room;
       root-start = t .root-start;
@@ -184,8 +184,8 @@ rules l slots e =
     }
   where
     unused : (n : ℕ) → l .used < n → Dec (n ≤ maxNodes) → at l n ≡ blank
-    unused n p (yes h) = tested l e .unused n (omega arith) h p
-    unused n p (no h) = at-out l n (omega arith)
+    unused n p (yes h) = tested l (s .formed) .unused n (omega arith) h p
+    unused n p (no h) = let most = s .sized in at-out l n (omega arith)
 
 pub rules-back : (l : Ledger) → WF l → wellFormed l ≡ true
 rules-back l w =
@@ -203,6 +203,12 @@ rules-back l w =
   where
     good : (n : ℕ) → InUse l n → NodeGood l n
     good n u = (w .alone n u, λ h. record { pair = w .pair n u h; later = w .later n u h })
+
+pub both-sound : {l : Ledger} → Sized l → wellFormed l ≡ true → Sound l
+both-sound a b = record { sized = a; formed = b }
+
+pub sound : (l : Ledger) → WF l → Sound l
+sound l w = record { sized = w .slots; formed = rules-back l w }
 
 -- ---- what follows for every node in use
 

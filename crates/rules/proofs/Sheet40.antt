@@ -7,19 +7,18 @@ use Prim.Native.Nat.{ℕ, _+_, _<_}
 use native.Mathlib.Omega.{arith}
 use native.Mathlib.Decide.{decLt}
 use lib.IntN.{pos, negsuc}
-use lib.ListN.{length}
 use Rattle.numbers.specs.Progress.{negative, position}
 use Rattle.numbers.specs.Fields.{natOf}
 use Rattle.rules.specs.declared.Node.{Node}
 use Rattle.rules.specs.declared.Ledger.{Ledger}
 use Rattle.rules.specs.declared.Request.{Request}
 use Rattle.rules.specs.declared.Answer.{Answer}
-use Rattle.rules.specs.Limits.{maxNodes}
 use Rattle.rules.specs.Listing.{afterAll}
 use Rattle.rules.specs.Nodes.{moved, parted, positionOf, middle, leftPart, rightPart}
 use Rattle.rules.specs.Requests.{batchEnd, nodeIn, requested}
 use Rattle.rules.specs.Sheet40.{ClaimGranted, MarkGranted, SplitGranted, InBatch, InNode, ClaimStands, MarkReadBack, MarkIsFinal, SharedOut, SplitStartsAtMark, SamePlace, ToClaimer, ToStealer, HerAnswer}
 use Rattle.rules.specs.Table.{InUse, at, nextPair}
+use Rattle.rules.specs.WellFormed.{Sized}
 use Rattle.rules.proofs.Batches.{sheets-join}
 use Rattle.rules.proofs.Granted.{Asked, in-use}
 use Rattle.rules.proofs.Nodes.{at-same}
@@ -39,8 +38,8 @@ claim-stands l r g =
 -- ---- the second step
 
 pub mark-read-back : MarkReadBack
-mark-read-back l r slots g =
-    let w = granted-wf l r 3 slots g in
+mark-read-back l r sized g =
+    let w = granted-wf l r 3 sized g in
     let m = is-marked l r g in
     let h = m .facts .here in
     rw
@@ -56,9 +55,9 @@ module _ (l : Ledger) (r : Request) (between : List Request) (w : WF l) (asked :
       run-later (requested l r .ledger) between (a .wf) .each (nodeIn r) (a .used (nodeIn r) (in-use l r asked))
 
 pub mark-is-final : MarkIsFinal
-mark-is-final l mark claim between slots same g c =
-    let w = granted-wf l mark 3 slots g in
-    let b = mark-read-back l mark slots g in
+mark-is-final l mark claim between sized same g c =
+    let w = granted-wf l mark 3 sized g in
+    let b = mark-read-back l mark sized g in
     let o = onward-since l mark between w (is-marked l mark g .asked) in
     let plain = rw same at (claim-stands (afterAll l (mark ∷ between)) claim c .unmarked) in
     true≢false (sym (b .mark) ∙ ap negative (sym (o .stands (b .mark))) ∙ plain)
@@ -67,8 +66,8 @@ mark-is-final l mark claim between slots same g c =
 
 pub split-starts-at-mark : SplitStartsAtMark
 unfolding leftPart rightPart middle
-split-starts-at-mark l r slots g =
-    let w = granted-wf l r 4 slots g in
+split-starts-at-mark l r sized g =
+    let w = granted-wf l r 4 sized g in
     let p = is-parted l r g in
     let u = in-use l r (p .asked) in
     let q = split-slots l w (nodeIn r) u (p .facts) in
@@ -138,7 +137,7 @@ module _ (l : Ledger) (r : Request) (later : List Request) (w : WF l) (g : Split
 
 -- ---- the answer
 
-module _ (l : Ledger) (claim steal : Request) (between : List Request) (slots : length (l .nodes) ≡ maxNodes)
+module _ (l : Ledger) (claim steal : Request) (between : List Request) (sized : Sized l)
     (place : SamePlace claim steal) where
   -- the position has passed the sheet, and never returns
   to-claimer : ClaimGranted l claim → ToClaimer l claim steal between
@@ -151,7 +150,7 @@ module _ (l : Ledger) (claim steal : Request) (between : List Request) (slots : 
       k = afterAll l (claim ∷ between)
 
       w : WF l
-      w = granted-wf l claim 2 slots g
+      w = granted-wf l claim 2 sized g
 
       c : Claimed l claim (requested l claim)
       c = is-claimed l claim g
@@ -182,7 +181,7 @@ module _ (l : Ledger) (claim steal : Request) (between : List Request) (slots : 
   to-stealer : MarkGranted l steal → ToStealer l claim steal between
   to-stealer g =
       record {
-        refused = mark-is-final l steal claim between slots (place .node) g;
+        refused = mark-is-final l steal claim between sized (place .node) g;
         moved = λ split later same h. position-in-half k split later later-wf h (natOf (steal .position)) (rw same marked-at);
       }
     where
@@ -193,11 +192,11 @@ module _ (l : Ledger) (claim steal : Request) (between : List Request) (slots : 
       k = afterAll l (steal ∷ between)
 
       w : WF l
-      w = granted-wf l steal 3 slots g
+      w = granted-wf l steal 3 sized g
 
       marked-at : natOf (steal .position) ≡ positionOf (at k n)
       marked-at =
-          let b = mark-read-back l steal slots g in
+          let b = mark-read-back l steal sized g in
           let o = onward-since l steal between w (is-marked l steal g .asked) in
           ap natOf (sym (b .back)) ∙ ap position (sym (o .stands (b .mark)))
 
@@ -205,5 +204,5 @@ module _ (l : Ledger) (claim steal : Request) (between : List Request) (slots : 
       later-wf = run-later l (steal ∷ between) w .wf
 
 pub her-answer : HerAnswer
-her-answer l claim steal between slots place =
-    (to-claimer l claim steal between slots place, to-stealer l claim steal between slots place)
+her-answer l claim steal between sized place =
+    (to-claimer l claim steal between sized place, to-stealer l claim steal between sized place)

@@ -1,11 +1,9 @@
 -- The demands on the ledger, as statements. `proofs/Demands.antt` proves each.
--- A ledger's table has as many slots as the largest room: its type says so, and a definition over lists has to be told.
 use mathlib.Core.Path.{_≡_}
 use mathlib.Core.Logic.{_≢_, _⊎_}
 use mathlib.Core.Bool.{true}
 use mathlib.Core.List.{[]}
 use Prim.Native.Nat.{ℕ, _+_, _≤_}
-use lib.ListN.{length}
 use Rattle.numbers.specs.Fields.{natOf}
 use Rattle.rules.specs.declared.Answer.{Answer}
 use Rattle.rules.specs.declared.Ledger.{Ledger}
@@ -13,14 +11,13 @@ use Rattle.rules.specs.declared.Node.{Node}
 use Rattle.rules.specs.declared.Opening.{Opening}
 use Rattle.rules.specs.declared.Request.{Request}
 use Rattle.rules.specs.Examples.{examples, AllRight}
-use Rattle.rules.specs.Limits.{maxNodes}
 use Rattle.rules.specs.Moves.{leads, isIn}
 use Rattle.rules.specs.Nodes.{blank, fresh, positionOf, leftOver, leftPart, rightPart}
 use Rattle.rules.specs.Opening.{opening}
 use Rattle.rules.specs.Requests.{nodeIn, refusing, view, requested}
 use Rattle.rules.specs.States.{OWNED, COMPLETED, STOLEN, stateOf}
 use Rattle.rules.specs.Table.{InUse, at, nextPair}
-use Rattle.rules.specs.WellFormed.{wellFormed}
+use Rattle.rules.specs.WellFormed.{wellFormed, Sound}
 
 -- An opening that is not refused makes a well-formed ledger.
 abbrev pub OpeningWellFormed : Type 0
@@ -29,7 +26,7 @@ OpeningWellFormed = (o : Opening) → opening o .code ≡ 0 → wellFormed (open
 -- Every request, granted or refused, leaves a well-formed ledger well formed.
 abbrev pub RequestsKeepWellFormed : Type 0
 RequestsKeepWellFormed =
-    (l : Ledger) (r : Request) → length (l .nodes) ≡ maxNodes → wellFormed l ≡ true → wellFormed (requested l r .ledger) ≡ true
+    (l : Ledger) (r : Request) → Sound l → wellFormed (requested l r .ledger) ≡ true
 
 -- A refusal changes nothing, and has only its code, but for 16, which has left and from too.
 abbrev pub RefusalsChangeNothing : Type 0
@@ -46,7 +43,7 @@ pub record Told (l : Ledger) (n : ℕ) (a : Answer) : Type 0 where
 -- A team second to a split is told by 16 where the children are.
 abbrev pub LateSplitterTold : Type 0
 LateSplitterTold =
-    (l : Ledger) (r : Request) → length (l .nodes) ≡ maxNodes → wellFormed l ≡ true → requested l r .answer .code ≡ 16
+    (l : Ledger) (r : Request) → Sound l → requested l r .answer .code ≡ 16
     → Told l (nodeIn r) (requested l r .answer)
 
 -- A pair to take: both its slots are within the room, and all 0.
@@ -58,13 +55,13 @@ pub record HasPair (l : Ledger) : Type 0 where
 -- A STOLEN node of a well-formed ledger has a pair to take, so a split needs no test for room.
 abbrev pub RoomForEverySplit : Type 0
 RoomForEverySplit =
-    (l : Ledger) (n : ℕ) → length (l .nodes) ≡ maxNodes → wellFormed l ≡ true → InUse l n → stateOf (at l n) ≡ STOLEN
+    (l : Ledger) (n : ℕ) → Sound l → InUse l n → stateOf (at l n) ≡ STOLEN
     → HasPair l
 
 -- An OWNED node has a sheet left, so a team that seeks does not ask how many: it can steal the last one too.
 abbrev pub OwnedHasSome : Type 0
 OwnedHasSome =
-    (l : Ledger) (n : ℕ) → length (l .nodes) ≡ maxNodes → wellFormed l ≡ true → InUse l n → stateOf (at l n) ≡ OWNED
+    (l : Ledger) (n : ℕ) → Sound l → InUse l n → stateOf (at l n) ≡ OWNED
     → 1 ≤ leftOver (at l n)
 
 -- The parts of a node with one sheet left: an empty left one, and a right one with the sheet.
@@ -76,7 +73,7 @@ LastSheet =
 -- An empty node is COMPLETED from the start and never owned.
 abbrev pub EmptyNeverOwned : Type 0
 EmptyNeverOwned =
-    (l : Ledger) (n : ℕ) → length (l .nodes) ≡ maxNodes → wellFormed l ≡ true → InUse l n → at l n .start ≡ at l n .until
+    (l : Ledger) (n : ℕ) → Sound l → InUse l n → at l n .start ≡ at l n .until
     → (stateOf (at l n) ≡ COMPLETED) × (at l n .owner ≡ 0)
 
 -- What the rule of moves says of a request r that makes a ledger l into another.
@@ -91,7 +88,7 @@ pub record Moves (l : Ledger) (r : Request) (next : Ledger) : Type 0 where
 -- Every request on a well-formed ledger follows the rule of moves.
 abbrev pub RequestsFollowMoves : Type 0
 RequestsFollowMoves =
-    (l : Ledger) (r : Request) → length (l .nodes) ≡ maxNodes → wellFormed l ≡ true → Moves l r (requested l r .ledger)
+    (l : Ledger) (r : Request) → Sound l → Moves l r (requested l r .ledger)
 
 -- The twelve examples are as the document has them.
 abbrev pub TwelveExamples : Type 0

@@ -7,19 +7,18 @@ use mathlib.Core.Bool.{true, false}
 use mathlib.Core.List.{List, _∷_, _++_}
 use Prim.Native.Nat.{ℕ, _+_, _≤_, _<_}
 use lib.IntN.{pos}
-use lib.ListN.{length}
 use Rattle.numbers.specs.Fields.{natOf}
 use Rattle.rules.specs.declared.Node.{Node}
 use Rattle.rules.specs.declared.Ledger.{Ledger}
 use Rattle.rules.specs.declared.Opening.{Opening}
 use Rattle.rules.specs.declared.Request.{Request}
 use Rattle.rules.specs.declared.Answer.{Answer}
-use Rattle.rules.specs.Limits.{maxNodes}
 use Rattle.rules.specs.Listing.{unclaimedOf, afterAll, reached, batches, timesIn}
 use Rattle.rules.specs.Nodes.{marked, positionOf, middle}
 use Rattle.rules.specs.Opening.{opening}
 use Rattle.rules.specs.Requests.{nodeIn, requested}
 use Rattle.rules.specs.Table.{at}
+use Rattle.rules.specs.WellFormed.{Sized}
 
 -- a request of that kind that the ledger grants
 pub record IsGranted (kind : ℕ) (l : Ledger) (r : Request) : Type 0 where
@@ -68,13 +67,13 @@ pub record ReadBack (x : Node) (r : Request) : Type 0 where
 
 abbrev pub MarkReadBack : Type 0
 MarkReadBack =
-    (l : Ledger) (r : Request) → length (l .nodes) ≡ maxNodes → MarkGranted l r
+    (l : Ledger) (r : Request) → Sized l → MarkGranted l r
     → ReadBack (at (requested l r .ledger) (nodeIn r)) r
 
 -- after a mark no claim on that node is ever granted, whatever requests follow
 abbrev pub MarkIsFinal : Type 0
 MarkIsFinal =
-    (l : Ledger) (mark claim : Request) (between : List Request) → length (l .nodes) ≡ maxNodes
+    (l : Ledger) (mark claim : Request) (between : List Request) → Sized l
     → nodeIn claim ≡ nodeIn mark
     → MarkGranted l mark
     → ClaimGranted (afterAll l (mark ∷ between)) claim
@@ -93,7 +92,7 @@ pub record SharedOut (x a b : Node) : Type 0 where
 
 abbrev pub SplitStartsAtMark : Type 0
 SplitStartsAtMark =
-    (l : Ledger) (r : Request) → length (l .nodes) ≡ maxNodes → SplitGranted l r
+    (l : Ledger) (r : Request) → Sized l → SplitGranted l r
     → let next = requested l r .ledger in
     let left = requested l r .answer .left in
     SharedOut (at l (nodeIn r)) (at next left) (at next (left + 1))
@@ -121,7 +120,7 @@ pub record ToStealer (l : Ledger) (claim steal : Request) (between : List Reques
 
 abbrev pub HerAnswer : Type 0
 HerAnswer =
-    (l : Ledger) (claim steal : Request) (between : List Request) → length (l .nodes) ≡ maxNodes → SamePlace claim steal
+    (l : Ledger) (claim steal : Request) (between : List Request) → Sized l → SamePlace claim steal
     → (ClaimGranted l claim → ToClaimer l claim steal between) × (MarkGranted l steal → ToStealer l claim steal between)
 
 -- ---- and no sheet is granted twice

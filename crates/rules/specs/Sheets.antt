@@ -1,18 +1,16 @@
 -- Every sheet exactly once, and how many can be unclaimed, as statements. `proofs/Sheets.antt` and `proofs/Counting.antt` prove them.
 use mathlib.Core.Path.{_≡_}
-use mathlib.Core.Bool.{true}
 use mathlib.Core.List.{List}
 use Prim.Native.Nat.{ℕ, _-_, _≤_}
-use lib.ListN.{length}
 use Rattle.numbers.specs.Fields.{natOf}
 use Rattle.rules.specs.declared.Ledger.{Ledger}
 use Rattle.rules.specs.declared.Opening.{Opening}
 use Rattle.rules.specs.declared.Request.{Request}
 use Rattle.rules.specs.Count.{unclaimed, counted}
-use Rattle.rules.specs.Limits.{maxUntil, maxNodes}
+use Rattle.rules.specs.Limits.{maxUntil}
 use Rattle.rules.specs.Listing.{sheets, reached, Batch, batches, Lists, ListsOnly}
 use Rattle.rules.specs.Opening.{opening}
-use Rattle.rules.specs.WellFormed.{wellFormed}
+use Rattle.rules.specs.WellFormed.{Sized, Sound}
 
 -- A node has one listing.
 abbrev pub OneListing : Type 0
@@ -27,8 +25,8 @@ EverySheetOnce =
 
 -- No more is unclaimed than the range has sheets.
 abbrev pub CountAtMost : Type 0
-CountAtMost = (l : Ledger) → length (l .nodes) ≡ maxNodes → wellFormed l ≡ true → unclaimed l ≤ l .until - l .start
+CountAtMost = (l : Ledger) → Sound l → unclaimed l ≤ l .until - l .start
 
 -- So a count fits a signed 32-bit number.
 abbrev pub CountFits : Type 0
-CountFits = (l : Ledger) → length (l .nodes) ≡ maxNodes → counted l .count ≤ maxUntil
+CountFits = (l : Ledger) → Sized l → counted l .count ≤ maxUntil

@@ -1,9 +1,11 @@
 -- "A ledger is well formed if": each rule is a test, in the text's order within its group.
 -- The rules of a node by itself, of a node with its children, and of the whole table stand apart.
 use Prim.Native.Nat.{ℕ, zero, suc, _+_, _*_, _%_}
+use mathlib.Core.Path.{_≡_}
 use mathlib.Core.Bool.{Bool, true, cond, not, _&&_, _||_}
 use lib.IntN.{pos}
 use lib.Dec.{leb, ltb, eqb}
+use lib.ListN.{length}
 use Rattle.numbers.specs.Fields.{isNat}
 use Rattle.rules.specs.declared.Node.{Node}
 use Rattle.rules.specs.declared.Ledger.{Ledger}
@@ -117,3 +119,14 @@ wellFormed l =
     && upTo (pairRule l) (l .used)
     && roomRule l
     && upTo (unusedRule l) maxNodes)
+
+-- ---- what statements ask of a ledger
+
+-- A ledger's table has as many slots as the largest room: its type says so, and a definition over lists has to be told.
+abbrev pub Sized : Ledger → Type 0
+Sized l = length (l .nodes) ≡ maxNodes
+
+-- a ledger of that many slots that is well formed
+pub record Sound (l : Ledger) : Type 0 where
+  pub sized : Sized l
+  pub formed : wellFormed l ≡ true

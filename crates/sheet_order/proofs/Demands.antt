@@ -11,8 +11,7 @@ use lib.Dec.{leb}
 use lib.ListN.{length, set}
 use lib.Seq.{take-append-seam, getD-set-same, getD-set-other}
 use Rattle.rules.specs.declared.Ledger.{Ledger}
-use Rattle.rules.specs.Limits.{maxNodes}
-use Rattle.rules.specs.WellFormed.{wellFormed}
+use Rattle.rules.specs.WellFormed.{wellFormed, Sized, Sound}
 use Rattle.rules.proofs.Facts.{both}
 use Rattle.rules.specs.declared.Opening.{Opening}
 use Rattle.rules.specs.declared.Request.{Request}
@@ -21,7 +20,7 @@ use Rattle.rules.specs.Opening.{opening, ledgerOf}
 use Rattle.rules.proofs.Listed.{listed-lists}
 use Rattle.rules.proofs.Onward.{run-later}
 use Rattle.rules.proofs.Opens.{opened-wf}
-use Rattle.rules.proofs.Record.{WF, rules, rules-back, root-used}
+use Rattle.rules.proofs.Record.{WF, rules, both-sound, sound, root-used}
 use Rattle.rules.proofs.Sheets.{begun, every-sheet-once}
 use Rattle.sheet_order.specs.declared.Piece.{Piece}
 use Rattle.sheet_order.specs.declared.Pieces.{Pieces}
@@ -58,24 +57,23 @@ module _ (l : Ledger) (g : Pieces) where
   unfolding inOrder
   large-answer e = rw e
 
-  pub root-readable : length (l .nodes) ≡ maxNodes → small l g ≡ true → Readable l g 1
+  pub root-readable : Sized l → small l g ≡ true → Readable l g 1
   unfolding small
-  root-readable slots e =
+  root-readable sized e =
       let h = both (wellFormed l) _ .0 e in
-      let w = rules l slots (h .0) in
+      let s : Sound l = both-sound sized (h .0) in
       let k = both (leb (l .used) mostNodes) _ .0 (h .1) in
       record {
-        slots = slots;
-        formed = h .0;
+        sound = s;
         grants = leb-true (g .count) most (k .1);
-        used = root-used l w;
+        used = root-used l (rules l s);
       }
 
 pub reads-small : ReadsSmall
 unfolding inOrder row
-reads-small l g slots e fits =
-    let r = root-readable l g slots e in
-    let w = rules l slots (r .formed) in
+reads-small l g sized e fits =
+    let r = root-readable l g sized e in
+    let w = rules l (r .sound) in
     rw
     (e, le-leb (length (rootPieces l g)) most fits)
     (some-piece l (grantedTo (g .items) (g .count)) w)
@@ -107,4 +105,4 @@ reads-every-sheet o rs g c e h =
     let l = reached o rs in
     let w = reached-wf o rs c in
     reads-listing l g h
-    ∙ rw e (every-sheet-once o rs c .only _ (listed-lists l (batches (opening o .ledger) rs) (w .slots) (rules-back l w)))
+    ∙ rw e (every-sheet-once o rs c .only _ (listed-lists l (batches (opening o .ledger) rs) (sound l w)))

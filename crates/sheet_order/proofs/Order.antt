@@ -9,7 +9,6 @@ use native.Mathlib.Omega.{arith}
 use lib.Dec.{eqb}
 use lib.ListN.{length, getD, length-append}
 use borrow.Author.Tests.{eqb-false, eq-eqb, ne-eqb}
-use native.Mathlib.Decide.{ℕ-discrete}
 use Rattle.rules.specs.declared.Ledger.{Ledger}
 use Rattle.rules.specs.Limits.{maxNodes}
 use Rattle.rules.specs.Listed.{listed}
@@ -73,15 +72,15 @@ pub children : (l : Ledger) (g : Pieces) (n : ℕ)
     → childless (at l n) ≡ false
     → Readable l g (at l n .left) × Readable l g (at l n .left + 1)
 children l g n r c =
-    let w = rules l (r .slots) (r .formed) in
+    let w = rules l (r .sound) in
     let some : 0 < at l n .left = omega (arith, eqb-false (at l n .left) 0 c) in (
-      record { slots = r .slots; formed = r .formed; grants = r .grants; used = left-used l w n (r .used) some },
-      record { slots = r .slots; formed = r .formed; grants = r .grants; used = right-used l w n (r .used) some },
+      record { sound = r .sound; grants = r .grants; used = left-used l w n (r .used) some },
+      record { sound = r .sound; grants = r .grants; used = right-used l w n (r .used) some },
     )
 
 -- and so are numbers of slots
 pub slot-small : (l : Ledger) (g : Pieces) (n : ℕ) → Readable l g n → n ≤ maxNodes
-slot-small l g n r = omega (arith, used-high l (rules l (r .slots) (r .formed)), r .used .high)
+slot-small l g n r = omega (arith, used-high l (rules l (r .sound)), r .used .high)
 
 -- as deep as the tree is large, a node has pieces
 some-below : (l : Ledger) (ps : List Piece) (depth : ℕ) {n : ℕ} (t : Tree l n) → size t ≤ depth → 0 < length (pieces depth l ps n)

@@ -8,7 +8,6 @@ use Rattle.numbers.specs.Fields.{natOf}
 use Rattle.rules.specs.declared.Ledger.{Ledger}
 use Rattle.rules.specs.declared.Opening.{Opening}
 use Rattle.rules.specs.declared.Request.{Request}
-use Rattle.rules.specs.Limits.{maxNodes}
 use Rattle.rules.specs.Listed.{listed}
 use Rattle.rules.specs.Listing.{sheets, reached, batches}
 use Rattle.rules.specs.Opening.{opening}
@@ -25,7 +24,7 @@ ReadsListing = (l : Ledger) (g : Pieces) → 0 < inOrder l g .count → sheetsOf
 abbrev pub ReadsSmall : Type 0
 ReadsSmall =
     (l : Ledger) (g : Pieces)
-    → length (l .nodes) ≡ maxNodes
+    → Sized l
     → small l g ≡ true
     → length (rootPieces l g) ≤ most
     → 0 < inOrder l g .count

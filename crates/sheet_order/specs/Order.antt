@@ -1,17 +1,15 @@
 -- The listing in pieces: the rules' listing, with who has each run of sheets and from which node.
 use Prim.Native.Nat.{ℕ, zero, suc, _+_, _≤_}
-use mathlib.Core.Path.{_≡_}
-use mathlib.Core.Bool.{Bool, true, cond, _&&_}
+use mathlib.Core.Bool.{Bool, cond, _&&_}
 use mathlib.Core.List.{List, [], _∷_, _++_, map}
 use lib.Dec.{eqb, leb}
 use lib.ListN.{length, getD}
 use Rattle.rules.specs.declared.Node.{Node}
 use Rattle.rules.specs.declared.Ledger.{Ledger}
-use Rattle.rules.specs.Limits.{maxNodes}
 use Rattle.rules.specs.Listing.{Batch, sheets}
 use Rattle.rules.specs.Nodes.{positionOf, childless}
 use Rattle.rules.specs.Table.{InUse, at}
-use Rattle.rules.specs.WellFormed.{wellFormed}
+use Rattle.rules.specs.WellFormed.{wellFormed, Sound}
 use Rattle.sheet_order.specs.declared.Piece.{Piece}
 use Rattle.sheet_order.specs.declared.Pieces.{Pieces}
 use Rattle.sheet_order.specs.Row.{most, noPiece, row, empty}
@@ -77,7 +75,6 @@ inOrder l g = cond (small l g && leb (length (rootPieces l g)) most) (row (rootP
 -- ---- what the code's parts ask: node n is in use, in a well-formed ledger
 
 pub record Readable (l : Ledger) (g : Pieces) (n : ℕ) : Type 0 where
-  pub slots : length (l .nodes) ≡ maxNodes
-  pub formed : wellFormed l ≡ true
+  pub sound : Sound l
   pub grants : g .count ≤ most
   pub used : InUse l n

@@ -6,7 +6,6 @@ use native.Mathlib.Omega.{arith}
 use native.Mathlib.Decide.{decLe, decLt}
 use lib.Dec.{eqb}
 use lib.IntN.{ℤ, pos}
-use lib.ListN.{length}
 use borrow.Author.Tests.{not-false}
 use Rattle.numbers.specs.Fields.{within, natOf}
 use Rattle.numbers.proofs.Laws.{within-true}
@@ -20,9 +19,9 @@ use Rattle.rules.specs.Limits.{maxCap}
 use Rattle.rules.specs.Refusals.{refusal}
 use Rattle.rules.specs.Requests.{refusing, outcome, owning, advancing, marking, expanding, looking, granted, decided, view, nodeIn, answered, requested}
 use Rattle.rules.specs.Table.{at}
-use Rattle.rules.specs.WellFormed.{wellFormed}
+use Rattle.rules.specs.WellFormed.{wellFormed, Sized, Sound}
 use Rattle.rules.proofs.Keeps.{requested-wf}
-use Rattle.rules.proofs.Record.{WF, rules, used-high}
+use Rattle.rules.proofs.Record.{WF, rules, both-sound, used-high}
 use Rattle.rules.proofs.Spare.{spare}
 use Rattle.rules.proofs.Tests.{passed}
 use Rattle.ledger.proofs.Laws.{until-small}
@@ -56,9 +55,9 @@ left-small v q k node pair = refused-or (eqb (refusal v q) 0)
         late true = node
         late false = omega arith
 
-module _ (l : Ledger) (slots : length (l .nodes) ≡ 1023) (formed : wellFormed l ≡ true) where
+module _ (l : Ledger) (s : Sound l) where
   w : WF l
-  w = rules l slots formed
+  w = rules l s
 
   child-small : (n : ℕ) → 1 ≤ n → at l n .left ≤ maxNode
   child-small n low = go (decLe n (l .used)) (decLt 0 (at l n .left))
@@ -84,7 +83,7 @@ module _ (l : Ledger) (slots : length (l .nodes) ≡ 1023) (formed : wellFormed 
   ready number r n limited =
       record {
         limited = limited;
-        until-high = until-small l slots formed n;
+        until-high = until-small l s n;
         left-high = any-child-small n;
         pair-high = omega (arith, spare l w .next, used-high l w);
       }
@@ -149,13 +148,13 @@ pub record Passes (l : Ledger) (number : ℤ) (r : Team) : Type 0 where
   pub formed : wellFormed l ≡ true
   pub limited : Limited (natOf number) r
 
-pub passes : (l : Ledger) → length (l .nodes) ≡ 1023 → (number cap : ℤ) (r : Team) → soloCode l number cap r ≡ 0 → Passes l number r
+pub passes : (l : Ledger) → Sized l → (number cap : ℤ) (r : Team) → soloCode l number cap r ≡ 0 → Passes l number r
 unfolding soloCode
-passes l slots number cap r e =
+passes l sized number cap r e =
     let t = passed (soloTests l number cap r) 0 tt e .0 in
     let formed = not-false (wellFormed l) (t .0) in
     let n = within-true number 1 (l .teams) (not-false (within number 1 (l .teams)) (t .1 .0)) in
     record {
       formed = formed;
-      limited = fit-limits (natOf number) cap r (omega (arith, n .high, rules l slots formed .limits .teams-high)) (t .1 .1 .0);
+      limited = fit-limits (natOf number) cap r (omega (arith, n .high, rules l (both-sound sized formed) .limits .teams-high)) (t .1 .1 .0);
     }

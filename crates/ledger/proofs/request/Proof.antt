@@ -6,7 +6,7 @@ use lib.ListN.{length}
 use Rattle.numbers.proofs.Signed.{told}
 use Rattle.rules.specs.Requests.{view, decided, answered, requested}
 use Rattle.rules.specs.WellFormed.{wellFormed}
-use Rattle.rules.proofs.Record.{rules}
+use Rattle.rules.proofs.Record.{rules, both-sound}
 use Rattle.nodes.proofs.Laws.{chosen, passed-by, natural-held}
 use Rattle.ledger.specs.Slots.{Stores}
 use Rattle.forms.proofs.Laws.{length-under, used-small}
@@ -26,7 +26,7 @@ decision : (c : tie.After-decide) → c .decide .result ≡ decided (c .before .
 unfolding view
 decision c =
     let l = c .before .before .before .before .before .before .args .l in
-    let small = until-small l (slots (c .before .before .before .before .before .before)) (formed c) (c .before .before .natural .result) in
+    let small = until-small l (both-sound (slots (c .before .before .before .before .before .before)) (formed c)) (c .before .before .natural .result) in
     c .decide .ensures (rw (c .before .view-of .ensures) small)
 
 stores : (c : tie.After-decide) → Stores (c .before .before .natural .result) (c .decide .result .change)
@@ -35,7 +35,7 @@ stores c =
     let number = natural-held (s .args .r .node) _ (c .before .before .before .struct-told .given .1 .1 .0 .1) (c .before .before .natural .ensures) in
     rw
     (decision c, c .before .view-of .ensures, ← number)
-    (request-stores (s .args .l) (rules (s .args .l) (slots s) (formed c)) (s .args .r))
+    (request-stores (s .args .l) (rules (s .args .l) (both-sound (slots s) (formed c))) (s .args .r))
 
 pub request-spec : {M : Type 1} → statement M
 unfolding view answered requested

@@ -2,8 +2,8 @@
 use borrow.Author.Needs.{needs}
 use native.Mathlib.Omega.{arith}
 use mathlib.Core.Path.{_≡_, sym, ap, _∙_}
-use Prim.Native.Nat.{_+_, _-_, _*_, _≤_, _<_}
-use lib.ListN.{length, take, getD}
+use Prim.Native.Nat.{_-_, _*_, _≤_, _<_}
+use lib.ListN.{length, take}
 use lib.Seq.{take-all}
 use Rattle.rules.specs.Nodes.{blank}
 use Rattle.rules.specs.Count.{restOf, unclaimed}
