@@ -14,11 +14,11 @@ use Rattle.numbers.specs.Fields.{natOf, within}
 use Rattle.rules.specs.declared.Opening.{Opening}
 use Rattle.rules.specs.Limits.{opens, maxTeams}
 use Rattle.rules.specs.Count.{unclaimed}
-use Rattle.rules.specs.Listing.{batches}
+use Rattle.laws.specs.Listing.{batches}
 use Rattle.rules.specs.Opening.{opening, ledgerOf}
-use Rattle.rules.proofs.Once.{given-once-at-most}
+use Rattle.laws.proofs.Once.{given-once-at-most}
 use Rattle.rules.proofs.Opens.{opens-facts}
-use Rattle.rules.proofs.Sheets.{every-sheet-once}
+use Rattle.laws.proofs.Sheets.{every-sheet-once}
 use Rattle.steps.specs.declared.Team.{Team}
 use Rattle.steps.specs.Records.{isStopped}
 use Rattle.steps.specs.Step.{recordOf}

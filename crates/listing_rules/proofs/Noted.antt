@@ -17,14 +17,14 @@ use Rattle.rules.specs.declared.Request.{Request}
 use Rattle.rules.specs.declared.Answer.{Answer}
 use Rattle.rules.specs.declared.Answered.{Answered}
 use Rattle.rules.specs.Limits.{opens}
-use Rattle.rules.specs.Listing.{Batch, isClaim, batchOf, batches, afterAll}
+use Rattle.laws.specs.Listing.{Batch, isClaim, batchOf, batches, afterAll}
 use Rattle.rules.specs.Nodes.{positionOf, middle}
 use Rattle.rules.specs.Requests.{nodeIn, batchEnd, requested, refused}
 use Rattle.rules.specs.Table.{nextPair, at}
 use Rattle.rules.proofs.Spare.{pair-room}
 use Rattle.rules.proofs.Granted.{Asked, in-use, Answers, refuses, owns, advances, marks, expands, looks, answers}
 use Rattle.rules.proofs.Keeps.{requested-wf}
-use Rattle.rules.proofs.Once.{after-append}
+use Rattle.laws.proofs.Runs.{after-append}
 use Rattle.rules.proofs.Range.{within-range}
 use Rattle.rules.proofs.Record.{WF, used-high}
 use Rattle.steps.specs.declared.Team.{Team}

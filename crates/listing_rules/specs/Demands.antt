@@ -11,7 +11,7 @@ use Rattle.numbers.specs.Fields.{natOf}
 use Rattle.rules.specs.declared.Ledger.{Ledger}
 use Rattle.rules.specs.declared.Opening.{Opening}
 use Rattle.rules.specs.declared.Request.{Request}
-use Rattle.rules.specs.Listing.{sheets, batches, reached, timesIn, ListsOnly}
+use Rattle.laws.specs.Listing.{sheets, batches, reached, timesIn, ListsOnly}
 use Rattle.rules.specs.Opening.{opening}
 use Rattle.text_rules.specs.Answers.{scheduleOf}
 use Rattle.text_rules.specs.Demands.{scheduleRoom, SameButComments}

@@ -4,7 +4,7 @@ use mathlib.Core.List.{List, [], _∷_, _++_}
 use lib.IntN.{ℤ}
 use Rattle.numbers.specs.Fields.{natOf}
 use Rattle.rules.specs.declared.Request.{Request}
-use Rattle.rules.specs.Listing.{Batch}
+use Rattle.laws.specs.Listing.{Batch}
 use Rattle.steps.specs.Records.{isStopped}
 use Rattle.steps.specs.Step.{recordOf}
 use Rattle.steps.specs.Turn.{asks}

@@ -10,7 +10,7 @@ use Rattle.rules.specs.declared.Unclaimed.{Unclaimed}
 use Rattle.rules.specs.Count.{restOf, unclaimed, counted}
 use Rattle.rules.specs.Limits.{maxUntil}
 use Rattle.rules.specs.Nodes.{middle}
-use Rattle.rules.specs.Sheets.{CountAtMost, CountFits}
+use Rattle.rules.specs.Demands.{CountAtMost, CountFits}
 use Rattle.rules.specs.Table.{at}
 use Rattle.rules.specs.WellFormed.{wellFormed}
 use Rattle.rules.proofs.Record.{WF, rules, both-sound}

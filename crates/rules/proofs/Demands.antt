@@ -1,47 +1,35 @@
 -- The demands on the ledger, proved.
 use mathlib.Core.Path.{_≡_, refl, ap, _∙_}
-use mathlib.Core.Bool.{Bool, true, false, cond}
 use Prim.Native.Nat.{ℕ}
 use native.Mathlib.Omega.{arith}
 use lib.IntN.{pos}
 use Rattle.numbers.specs.Fields.{natOf}
 use Rattle.numbers.proofs.Laws.{isNat-made}
 use Rattle.rules.specs.declared.Ledger.{Ledger}
-use Rattle.rules.specs.declared.Opened.{Opened}
 use Rattle.rules.specs.declared.Request.{Request}
 use Rattle.rules.specs.declared.Answered.{Answered}
 use Rattle.rules.specs.Demands.{OpeningWellFormed, RequestsKeepWellFormed, RefusalsChangeNothing, Told, LateSplitterTold, RoomForEverySplit, OwnedHasSome, LastSheet, EmptyNeverOwned, Moves, RequestsFollowMoves}
-use Rattle.rules.specs.Limits.{opens}
 use Rattle.rules.specs.Moves.{leads}
 use Rattle.rules.specs.Nodes.{fresh, positionOf, middle, leftPart, rightPart}
-use Rattle.rules.specs.Opening.{opening, ledgerOf, closed}
+use Rattle.rules.specs.Opening.{ledgerOf}
 use Rattle.rules.specs.Requests.{view, nodeIn, answered, requested}
 use Rattle.rules.specs.States.{stateOf}
 use Rattle.rules.specs.Table.{at}
-use Rattle.rules.specs.WellFormed.{wellFormed}
 use Rattle.rules.proofs.Spare.{left-blank, right-blank, pair-room}
 use Rattle.rules.proofs.Granted.{not-yet, in-use, Answers, refuses, owns, advances, marks, expands, looks, late-facts, answers}
-use Rattle.rules.proofs.Keeps.{wf-answered, requested-wf, refused-keeps}
+use Rattle.rules.proofs.Keeps.{requested-good, requested-wf, refused-keeps}
 use Rattle.rules.proofs.Moves.{moves, others, none}
-use Rattle.rules.proofs.Opens.{opened-wf}
+use Rattle.rules.proofs.Opens.{begun, opened-wf}
 use Rattle.rules.proofs.Record.{WF, rules, rules-back}
 use Rattle.rules.proofs.States.{is-stolen, is-owned, completed-is}
 
 pub opening-well-formed : OpeningWellFormed
-unfolding opening
-opening-well-formed o = go (opens o) refl
-  where
-    given : Bool → Opened
-    given b = cond b (record { code = 0; ledger = ledgerOf o }) (record { code = 20; ledger = closed })
-
-    go : (b : Bool) → opens o ≡ b → given b .code ≡ 0 → wellFormed (given b .ledger) ≡ true
-    go true e z = rules-back (ledgerOf o) (opened-wf o e)
-    go false e z = absurd (omega arith)
+opening-well-formed o e = let b = begun o e in rw (b .ledger) (rules-back (ledgerOf o) (opened-wf o (b .good)))
 
 pub requests-keep-well-formed : RequestsKeepWellFormed
 requests-keep-well-formed l r sound =
     let w = rules l sound in
-    rw (requested-wf l r w) (rules-back (answered l r .ledger) (wf-answered l r w))
+    rules-back (requested l r .ledger) (requested-good l r w)
 
 pub refusals-change-nothing : RefusalsChangeNothing
 refusals-change-nothing = refused-keeps

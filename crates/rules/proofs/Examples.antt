@@ -8,7 +8,7 @@ use lib.Seq.{getD-drop}
 use Rattle.rules.specs.declared.Ledger.{Ledger}
 use Rattle.rules.specs.Examples.{Example, Right, example-a, example-b, example-c, example-d, example-e, example-f, example-g, example-h, example-i, example-j, example-k, example-l}
 use Rattle.rules.specs.Demands.{TwelveExamples}
-use Rattle.rules.specs.Limits.{opens}
+use Rattle.rules.specs.Limits.{opens, slotsAfter}
 use Rattle.rules.specs.Nodes.{blank, middle, leftPart, rightPart}
 use Rattle.rules.specs.States.{stateOf, stolenOf}
 use Rattle.rules.specs.Table.{at, put, nextPair, grown, sumBy, stolenIn}
@@ -53,15 +53,15 @@ also a b = (a, b)
 pub twelve-examples : TwelveExamples
 unfolding opens middle leftPart rightPart stateOf stolenOf at put nextPair grown sumBy stolenIn upTo aloneRule childRule nodeRule leftIs pairRule ownCode advanceCode markCode expandCode kindCode refusal owning batchEnd advancing marking expanding looking granted decided view changed answered restOf unclaimed
 twelve-examples =
-    also (right example-a 1022 refl refl refl refl refl)
-    (also (right example-b 1022 refl refl refl refl refl)
-    (also (right example-c 1022 refl refl refl refl refl)
-    (also (right example-d 1022 refl refl refl refl refl)
-    (also (right example-e 1022 refl refl refl refl refl)
-    (also (right example-f 1022 refl refl refl refl refl)
-    (also (right example-g 1022 refl refl refl refl refl)
-    (also (right example-h 1022 refl refl refl refl refl)
-    (also (right example-i 1020 refl refl refl refl refl)
-    (also (right example-j 1022 refl refl refl refl refl)
-    (also (right example-k 1022 refl refl refl refl refl)
-    (also (right example-l 1022 refl refl refl refl refl) tt)))))))))))
+    also (right example-a (slotsAfter 1) refl refl refl refl refl)
+    (also (right example-b (slotsAfter 1) refl refl refl refl refl)
+    (also (right example-c (slotsAfter 1) refl refl refl refl refl)
+    (also (right example-d (slotsAfter 1) refl refl refl refl refl)
+    (also (right example-e (slotsAfter 1) refl refl refl refl refl)
+    (also (right example-f (slotsAfter 1) refl refl refl refl refl)
+    (also (right example-g (slotsAfter 1) refl refl refl refl refl)
+    (also (right example-h (slotsAfter 1) refl refl refl refl refl)
+    (also (right example-i (slotsAfter 3) refl refl refl refl refl)
+    (also (right example-j (slotsAfter 1) refl refl refl refl refl)
+    (also (right example-k (slotsAfter 1) refl refl refl refl refl)
+    (also (right example-l (slotsAfter 1) refl refl refl refl refl) tt)))))))))))

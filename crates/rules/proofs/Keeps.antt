@@ -122,6 +122,9 @@ pub requested-wf : (l : Ledger) (r : Request) → WF l → requested l r ≡ ans
 unfolding requested
 requested-wf l r w = rw (rules-back l w)
 
+pub requested-good : (l : Ledger) (r : Request) → WF l → WF (requested l r .ledger)
+requested-good l r w = rw (requested-wf l r w) (wf-answered l r w)
+
 answers-keep : {l : Ledger} {r : Request} {a : Answered} → Answers l r a → a .answer .code ≢ 0
     → a ≡ record { ledger = l; answer = refusing (view l (nodeIn r)) (a .answer .code) }
 answers-keep (refuses h) ne = refl

@@ -21,15 +21,5 @@ pub mod Range
 pub mod Moves
 pub mod Examples
 pub mod Demands
-pub mod Claims
-pub mod Batches
 pub mod Changed
-pub mod Onward
-pub mod Whole
-pub mod Sheets
-pub mod Story
-pub mod Tally
-pub mod Sheet40
-pub mod Once
 pub mod Counting
-pub mod Listed

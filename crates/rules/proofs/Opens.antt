@@ -1,6 +1,6 @@
 -- An opening within its limits makes a well-formed ledger.
 use mathlib.Core.Path.{_≡_, refl}
-use mathlib.Core.Bool.{true}
+use mathlib.Core.Bool.{Bool, true, false, cond}
 use mathlib.Core.List.{_∷_}
 use Prim.Native.Nat.{ℕ, zero, suc, _+_, _-_, _*_, _≤_, _<_}
 use native.Mathlib.Omega.{arith}
@@ -9,9 +9,10 @@ use Rattle.numbers.specs.Fields.{natOf}
 use Rattle.numbers.proofs.Laws.{Within, within-true}
 use Rattle.rules.specs.declared.Ledger.{Ledger}
 use Rattle.rules.specs.declared.Opening.{Opening}
-use Rattle.rules.specs.Limits.{opens, maxUntil, maxTeams, maxCap, maxNodes, otherSlots}
+use Rattle.rules.specs.declared.Opened.{Opened}
+use Rattle.rules.specs.Limits.{opens, maxUntil, maxTeams, maxCap, maxNodes, slotsAfter}
 use Rattle.rules.specs.Nodes.{blank, fresh}
-use Rattle.rules.specs.Opening.{opened, ledgerOf}
+use Rattle.rules.specs.Opening.{opened, opening, ledgerOf, closed}
 use Rattle.rules.specs.States.{stolenOf}
 use Rattle.rules.specs.Table.{InUse, at, sumBy, stolenIn}
 use Rattle.rules.proofs.Expand.{alone-fresh}
@@ -77,7 +78,7 @@ module _ (k a b teams room : ℕ) (slots : k + 1 ≡ maxNodes) (limits : Limited
 
 pub opened-wf-of : (a b teams room : ℕ) → Limited a b teams room → WF (opened a b teams room)
 unfolding opened
-opened-wf-of a b teams room limits = with-wf otherSlots a b teams room refl limits
+opened-wf-of a b teams room limits = with-wf (slotsAfter 1) a b teams room refl limits
 
 -- the five numbers of an opening within its limits
 pub record Opens (o : Opening) : Type 0 where
@@ -119,3 +120,20 @@ opened-wf o e =
 pub opened-root : (a b teams room : ℕ) → at (opened a b teams room) 1 ≡ fresh a b
 unfolding opened at
 opened-root a b teams room = refl
+
+-- ---- an opening that is not refused
+
+pub record Begun (o : Opening) : Type 0 where
+  pub good : opens o ≡ true
+  pub ledger : opening o .ledger ≡ ledgerOf o
+
+pub begun : (o : Opening) → opening o .code ≡ 0 → Begun o
+unfolding opening
+begun o = go (opens o) refl
+  where
+    given : Bool → Opened
+    given b = cond b (record { code = 0; ledger = ledgerOf o }) (record { code = 20; ledger = closed })
+
+    go : (b : Bool) → opens o ≡ b → given b .code ≡ 0 → Begun o
+    go true e z = record { good = e; ledger = unfold opening in (rw e) }
+    go false e z = absurd (omega arith)

@@ -44,10 +44,6 @@ passed-to k (t ∷ ts) after p e =
 pub passed : (ts : List Test) (after : ℕ) → T (lacks 0 ts) → first ts after ≡ 0 → Passed ts × (after ≡ 0)
 passed = passed-to 0
 
-pub passes : (ts : List Test) (after : ℕ) → Passed ts → first ts after ≡ after
-passes [] after p = refl
-passes (t ∷ ts) after p = rw (p .0) (passes ts after (p .1))
-
 pub data Kind (k : ℕ) : Type 0 where
   own : k ≡ 1 → Kind k
   advance : k ≡ 2 → Kind k

@@ -38,10 +38,6 @@ pub record Rooted (l : Ledger) : Type 0 where
   pub once : (n : ℕ) → InUse l n → times n tree ≡ 1
   pub none : (n : ℕ) → l .used < n → times n tree ≡ 0
 
-pub top : {l : Ledger} {n : ℕ} → Tree l n → InUse l n
-top (leaf u e) = u
-top (fork u h e x y) = u
-
 -- ---- induction from the root
 
 -- what holds of the root, and of the children of each node in use of which it holds, holds of each node in the tree

@@ -3,21 +3,23 @@ use mathlib.Core.Path.{_≡_}
 use mathlib.Core.Logic.{_≢_, _⊎_}
 use mathlib.Core.Bool.{true}
 use mathlib.Core.List.{[]}
-use Prim.Native.Nat.{ℕ, _+_, _≤_}
+use Prim.Native.Nat.{ℕ, _+_, _-_, _≤_}
 use Rattle.numbers.specs.Fields.{natOf}
 use Rattle.rules.specs.declared.Answer.{Answer}
 use Rattle.rules.specs.declared.Ledger.{Ledger}
 use Rattle.rules.specs.declared.Node.{Node}
 use Rattle.rules.specs.declared.Opening.{Opening}
 use Rattle.rules.specs.declared.Request.{Request}
+use Rattle.rules.specs.Count.{unclaimed, counted}
 use Rattle.rules.specs.Examples.{examples, AllRight}
+use Rattle.rules.specs.Limits.{maxUntil}
 use Rattle.rules.specs.Moves.{leads, isIn}
 use Rattle.rules.specs.Nodes.{blank, fresh, positionOf, leftOver, leftPart, rightPart}
 use Rattle.rules.specs.Opening.{opening}
 use Rattle.rules.specs.Requests.{nodeIn, refusing, view, requested}
 use Rattle.rules.specs.States.{OWNED, COMPLETED, STOLEN, stateOf}
 use Rattle.rules.specs.Table.{InUse, at, nextPair}
-use Rattle.rules.specs.WellFormed.{wellFormed, Sound}
+use Rattle.rules.specs.WellFormed.{wellFormed, Sized, Sound}
 
 -- An opening that is not refused makes a well-formed ledger.
 abbrev pub OpeningWellFormed : Type 0
@@ -75,6 +77,14 @@ abbrev pub EmptyNeverOwned : Type 0
 EmptyNeverOwned =
     (l : Ledger) (n : ℕ) → Sound l → InUse l n → at l n .start ≡ at l n .until
     → (stateOf (at l n) ≡ COMPLETED) × (at l n .owner ≡ 0)
+
+-- No more is unclaimed than the range has sheets.
+abbrev pub CountAtMost : Type 0
+CountAtMost = (l : Ledger) → Sound l → unclaimed l ≤ l .until - l .start
+
+-- So a count fits a signed 32-bit number.
+abbrev pub CountFits : Type 0
+CountFits = (l : Ledger) → Sized l → counted l .count ≤ maxUntil
 
 -- What the rule of moves says of a request r that makes a ledger l into another.
 pub record Moves (l : Ledger) (r : Request) (next : Ledger) : Type 0 where

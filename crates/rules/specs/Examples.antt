@@ -8,6 +8,7 @@ use Rattle.rules.specs.declared.Node.{Node}
 use Rattle.rules.specs.declared.Ledger.{Ledger}
 use Rattle.rules.specs.declared.Request.{Request}
 use Rattle.rules.specs.declared.Answer.{Answer}
+use Rattle.rules.specs.Limits.{slotsAfter}
 use Rattle.rules.specs.Nodes.{blank, fresh}
 use Rattle.rules.specs.Requests.{refused, ranged, split, requested}
 use Rattle.rules.specs.Count.{counted}
@@ -20,7 +21,7 @@ node a b p owner left = record { start = a; until = b; progress = p; owner = own
 -- a ledger that has only its root, from 0, with an owner
 abbrev pub rooted : ℕ → ℕ → ℤ → ℕ → Ledger
 rooted room until p owner =
-    record { start = 0; until = until; teams = 2; room = room; used = 1; nodes = node 0 until p owner 0 ∷ replicate 1022 blank }
+    record { start = 0; until = until; teams = 2; room = room; used = 1; nodes = node 0 until p owner 0 ∷ replicate (slotsAfter 1) blank }
 
 -- the largest range, 0..2,147,483,647, at a progress of team 1
 abbrev pub wide : ℤ → Ledger
@@ -35,7 +36,7 @@ full =
       teams = 2;
       room = 5;
       used = 3;
-      nodes = node 0 8 (negsuc 3) 1 2 ∷ node 3 5 (pos 3) 1 0 ∷ node 5 8 (negsuc 5) 2 0 ∷ replicate 1020 blank;
+      nodes = node 0 8 (negsuc 3) 1 2 ∷ node 3 5 (pos 3) 1 0 ∷ node 5 8 (negsuc 5) 2 0 ∷ replicate (slotsAfter 3) blank;
     }
 
 -- ---- requests of a team on a node

@@ -12,8 +12,3 @@ pub mod Requests
 pub mod Count
 pub mod Examples
 pub mod Demands
-pub mod Listing
-pub mod Story
-pub mod Sheets
-pub mod Sheet40
-pub mod Listed

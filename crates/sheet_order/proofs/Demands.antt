@@ -15,13 +15,13 @@ use Rattle.rules.specs.WellFormed.{wellFormed, Sized, Sound}
 use Rattle.rules.proofs.Facts.{both}
 use Rattle.rules.specs.declared.Opening.{Opening}
 use Rattle.rules.specs.declared.Request.{Request}
-use Rattle.rules.specs.Listing.{reached, batches}
+use Rattle.laws.specs.Listing.{reached, batches}
 use Rattle.rules.specs.Opening.{opening, ledgerOf}
-use Rattle.rules.proofs.Listed.{listed-lists}
-use Rattle.rules.proofs.Onward.{run-later}
-use Rattle.rules.proofs.Opens.{opened-wf}
+use Rattle.laws.proofs.Listed.{listed-lists}
+use Rattle.laws.proofs.Runs.{run-good}
+use Rattle.rules.proofs.Opens.{begun, opened-wf}
 use Rattle.rules.proofs.Record.{WF, rules, both-sound, sound, root-used}
-use Rattle.rules.proofs.Sheets.{begun, every-sheet-once}
+use Rattle.laws.proofs.Sheets.{every-sheet-once}
 use Rattle.sheet_order.specs.declared.Piece.{Piece}
 use Rattle.sheet_order.specs.declared.Pieces.{Pieces}
 use Rattle.sheet_order.specs.Row.{most, noPiece, row, empty, told, withPiece, withAll}
@@ -98,7 +98,7 @@ notes-grant g p slots h =
 -- ---- after any requests
 
 reached-wf : (o : Opening) (rs : List Request) → opening o .code ≡ 0 → WF (reached o rs)
-reached-wf o rs c = let b = begun o c in rw (b .ledger) (run-later (ledgerOf o) rs (opened-wf o (b .good)) .wf)
+reached-wf o rs c = let b = begun o c in rw (b .ledger) (run-good (ledgerOf o) rs (opened-wf o (b .good)))
 
 pub reads-every-sheet : ReadsEverySheet
 reads-every-sheet o rs g c e h =

@@ -11,8 +11,8 @@ use lib.ListN.{length, getD, length-append}
 use borrow.Author.Tests.{eqb-false, eq-eqb, ne-eqb}
 use Rattle.rules.specs.declared.Ledger.{Ledger}
 use Rattle.rules.specs.Limits.{maxNodes}
-use Rattle.rules.specs.Listed.{listed}
-use Rattle.rules.specs.Listing.{sheets, grantedFrom}
+use Rattle.laws.specs.Listed.{listed}
+use Rattle.laws.specs.Listing.{sheets, grantedFrom}
 use Rattle.rules.specs.Nodes.{positionOf, childless}
 use Rattle.rules.specs.Table.{at}
 use Rattle.sheet_order.specs.declared.Piece.{Piece}

@@ -8,8 +8,8 @@ use Rattle.numbers.specs.Fields.{natOf}
 use Rattle.rules.specs.declared.Ledger.{Ledger}
 use Rattle.rules.specs.declared.Opening.{Opening}
 use Rattle.rules.specs.declared.Request.{Request}
-use Rattle.rules.specs.Listed.{listed}
-use Rattle.rules.specs.Listing.{sheets, reached, batches}
+use Rattle.laws.specs.Listed.{listed}
+use Rattle.laws.specs.Listing.{sheets, reached, batches}
 use Rattle.rules.specs.Opening.{opening}
 use Rattle.sheet_order.specs.declared.Piece.{Piece}
 use Rattle.sheet_order.specs.declared.Pieces.{Pieces}

@@ -6,7 +6,7 @@ use lib.Dec.{eqb, leb}
 use lib.ListN.{length, getD}
 use Rattle.rules.specs.declared.Node.{Node}
 use Rattle.rules.specs.declared.Ledger.{Ledger}
-use Rattle.rules.specs.Listing.{Batch, sheets}
+use Rattle.laws.specs.Listing.{Batch, sheets}
 use Rattle.rules.specs.Nodes.{positionOf, childless}
 use Rattle.rules.specs.Table.{InUse, at}
 use Rattle.rules.specs.WellFormed.{wellFormed, Sound}

@@ -5,7 +5,7 @@ ghost use mathlib.Core.List.{_∷_, []};
 ghost use Prim.Native.Nat.{_<_, _≤_};
 ghost use lib.Dec.{eqb, leb};
 ghost use lib.ListN.{replicate};
-ghost use Rattle.rules.specs.Listed.{listed};
+ghost use Rattle.laws.specs.Listed.{listed};
 ghost use Rattle.sheet_order.specs.Row.{most, noPiece, empty, withPiece, withAll, told};
 ghost use Rattle.sheet_order.specs.Order.{Readable, history, sheetsOf, fromNode, grantedTo, pieces, inOrder};
 use rules::Ledger;

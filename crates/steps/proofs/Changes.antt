@@ -9,7 +9,7 @@ use lib.Dec.{eqb}
 use Rattle.rules.specs.declared.Node.{Node}
 use Rattle.rules.specs.declared.Ledger.{Ledger}
 use Rattle.rules.specs.Nodes.{fresh, parted, leftPart, rightPart}
-use Rattle.rules.specs.States.{AVAILABLE, OWNED, STOLEN, EXPANDED, stateOf}
+use Rattle.rules.specs.States.{AVAILABLE, OWNED, COMPLETED, STOLEN, EXPANDED, stateOf}
 use Rattle.rules.specs.Table.{InUse, at, put, nextPair, grown}
 use Rattle.rules.proofs.Expand.{Among, parent, left, right, other, Slots, next, split-slots, stays as split-stays}
 use Rattle.rules.proofs.Nodes.{at-same, at-other, put-was}
@@ -79,9 +79,9 @@ unfolding stateOf
 fresh-states a b = go (eqb a b)
   where
     k : Bool → ℕ
-    k c = cond c 3 1
+    k c = cond c COMPLETED AVAILABLE
 
-    go : (c : Bool) → (k c ≢ 2) × (k c ≢ 4) × (k c ≢ 5)
+    go : (c : Bool) → (k c ≢ OWNED) × (k c ≢ STOLEN) × (k c ≢ EXPANDED)
     go true = (omega arith, omega arith, omega arith)
     go false = (omega arith, omega arith, omega arith)
 

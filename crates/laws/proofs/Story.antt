@@ -10,28 +10,28 @@ use native.Mathlib.Decide.{ℕ-discrete}
 use lib.IntN.{pos, negsuc}
 use borrow.Author.Tests.{eq-eqb, ne-eqb}
 use Rattle.numbers.specs.Fields.{natOf}
 use Rattle.rules.specs.declared.Node.{Node}
 use Rattle.rules.specs.declared.Ledger.{Ledger}
 use Rattle.rules.specs.declared.Opening.{Opening}
 use Rattle.rules.specs.declared.Request.{Request}
 use Rattle.rules.specs.declared.Answered.{Answered}
-use Rattle.rules.specs.Listing.{sheets, afterAll, Batch, batchIn}
+use Rattle.laws.specs.Listing.{sheets, afterAll, Batch, batchIn}
 use Rattle.rules.specs.Limits.{opens}
 use Rattle.rules.specs.Opening.{opened, ledgerOf}
 use Rattle.rules.specs.Nodes.{owned, moved, parted as partedNode, positionOf, middle, leftPart, rightPart}
-use Rattle.rules.specs.Story.{Story, whole, parted, claimed, split, onNode, told, toldAll, sheetsOf, read, unclaimedAt, EverySheetRead}
+use Rattle.laws.specs.Story.{Story, whole, parted, claimed, split, onNode, told, toldAll, sheetsOf, read, unclaimedAt, EverySheetRead}
 use Rattle.rules.specs.Refusals.{refusal}
 use Rattle.rules.specs.Requests.{ranged as rangedAnswer, batchEnd, view, nodeIn, requested}
-use Rattle.rules.specs.Table.{InUse, at, put, nextPair, grown}
-use Rattle.rules.proofs.Batches.{sheets-join, sheets-none}
+use Rattle.rules.specs.Table.{InUse, at, put, nextPair}
+use Rattle.laws.proofs.Batches.{sheets-join, sheets-none}
 use Rattle.rules.proofs.Expand.{Slots, next, split-slots, stays}
 use Rattle.rules.proofs.Granted.{Asked, in-use, Advancing, Answers, refuses, owns, advances, marks, expands, looks, answers}
 use Rattle.rules.proofs.Keeps.{wf-answers, requested-wf}
-use Rattle.rules.proofs.Sheets.{begun}
+use Rattle.laws.proofs.Runs.{run-range}
 use Rattle.rules.proofs.Nodes.{at-same, at-other, put-used}
-use Rattle.rules.proofs.Opens.{opened-wf, opened-root}
+use Rattle.rules.proofs.Opens.{begun, opened-wf, opened-root}
 use Rattle.rules.proofs.Record.{WF, in-table, no-children, root-used}
 use Rattle.rules.proofs.States.{Stolen}
 
 -- from a node these batches were granted
 abbrev Given : Node → List Batch → Type 0
@@ -270,29 +270,6 @@ run-stands l [] s w h = (w, h)
 run-stands l (r ∷ rs) s w h =
     let k = requested-stands l r s w h in
     run-stands (requested l r .ledger) rs (told r (requested l r .answer) s) (k .0) (k .1)
-
--- the ledger's own numbers stay
-pub record SameRange (l k : Ledger) : Type 0 where
-  pub start : k .start ≡ l .start
-  pub until : k .until ≡ l .until
-
-answers-range : {l : Ledger} {r : Request} {a : Answered} → Answers l r a → SameRange l (a .ledger)
-unfolding put grown
-answers-range (refuses ne) = record { start = refl; until = refl }
-answers-range (owns k q f) = record { start = refl; until = refl }
-answers-range (advances k q f) = record { start = refl; until = refl }
-answers-range (marks k q f) = record { start = refl; until = refl }
-answers-range (expands k q f) = record { start = refl; until = refl }
-answers-range (looks k q) = record { start = refl; until = refl }
-
-pub run-range : (l : Ledger) (rs : List Request) → WF l → SameRange l (afterAll l rs)
-unfolding afterAll
-run-range l [] w = record { start = refl; until = refl }
-run-range l (r ∷ rs) w =
-    let one : SameRange l (requested l r .ledger) = rw (requested-wf l r w) (answers-range (answers l r)) in
-    let good : WF (requested l r .ledger) = rw (requested-wf l r w) (wf-answers w (answers l r)) in
-    let all = run-range (requested l r .ledger) rs good in
-    record { start = all .start ∙ one .start; until = all .until ∙ one .until }
 
 -- ---- from an opening
 

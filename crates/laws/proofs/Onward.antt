@@ -7,20 +7,20 @@ use native.Mathlib.Omega.{arith}
 use native.Mathlib.Decide.{ℕ-discrete}
 use lib.IntN.{pos, negsuc}
 use Rattle.numbers.specs.Fields.{natOf}
 use Rattle.rules.specs.declared.Node.{Node}
 use Rattle.rules.specs.declared.Ledger.{Ledger}
 use Rattle.rules.specs.declared.Request.{Request}
 use Rattle.rules.specs.declared.Answered.{Answered}
-use Rattle.rules.specs.Listing.{afterAll}
+use Rattle.laws.specs.Listing.{afterAll}
 use Rattle.rules.specs.Nodes.{owned, moved, marked, positionOf}
 use Rattle.rules.specs.Requests.{batchEnd, nodeIn, requested}
 use Rattle.rules.specs.Table.{InUse, at}
 use Rattle.rules.proofs.Granted.{in-use, Answers, refuses, owns, advances, marks, expands, looks, answers}
 use Rattle.rules.proofs.Keeps.{wf-answers, requested-wf}
 use Rattle.rules.proofs.Moves.{others}
 use Rattle.rules.proofs.Nodes.{at-same, put-used}
 use Rattle.rules.proofs.Record.{WF, in-table}
 use Rattle.rules.proofs.Expand.{split-slots}
 
 pub record Onward (x y : Node) : Type 0 where
   pub start : y .start ≡ x .start

@@ -5,18 +5,18 @@ use Prim.Native.Nat.{ℕ, _+_, _*_}
 use native.Mathlib.Omega.{arith}
 use lib.IntN.{pos, negsuc}
 use Rattle.numbers.specs.Fields.{natOf}
 use Rattle.rules.specs.declared.Ledger.{Ledger}
 use Rattle.rules.specs.declared.Request.{Request}
 use Rattle.rules.specs.declared.Answered.{Answered}
 use Rattle.rules.specs.Moves.{byKind}
 use Rattle.rules.specs.Nodes.{moved, parted, positionOf, middle, leftPart, rightPart}
 use Rattle.rules.specs.Requests.{refused, ranged, split, batchEnd, nodeIn, answered, requested}
-use Rattle.rules.specs.Sheet40.{IsGranted, ClaimGranted, MarkGranted, SplitGranted}
+use Rattle.laws.specs.Sheet40.{IsGranted, ClaimGranted, MarkGranted, SplitGranted}
 use Rattle.rules.specs.Table.{at, put, nextPair, stolenIn}
 use Rattle.rules.specs.WellFormed.{wellFormed, Sized}
 use Rattle.rules.proofs.Granted.{Asked, Advancing, Marking, after as splitAt, Answers, refuses, owns, advances, marks, expands, looks, answers}
 use Rattle.rules.proofs.Record.{WF, rules, both-sound}
 use Rattle.rules.proofs.States.{Stolen}
 
 -- a request that is granted finds the ledger well formed, and so is answered by its own tests
 pub granted-answered : (l : Ledger) (r : Request) → requested l r .answer .code ≡ 0

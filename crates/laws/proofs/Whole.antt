@@ -8,26 +8,26 @@ use native.Mathlib.Omega.{arith}
 use native.Mathlib.Decide.{ℕ-discrete}
 use lib.IntN.{pos, negsuc}
 use Rattle.numbers.specs.Fields.{natOf}
 use Rattle.rules.specs.declared.Node.{Node}
 use Rattle.rules.specs.declared.Ledger.{Ledger}
 use Rattle.rules.specs.declared.Request.{Request}
 use Rattle.rules.specs.declared.Answered.{Answered}
-use Rattle.rules.specs.Listing.{sheets, unclaimedOf, afterAll, Batch, batchIn, batchOf, batches, grantedFrom, Lists, ends, parts, ListsOnly}
+use Rattle.laws.specs.Listing.{sheets, unclaimedOf, afterAll, Batch, batchIn, batchOf, batches, grantedFrom, Lists, ends, parts, ListsOnly}
 use Rattle.rules.specs.Nodes.{owned, moved, parted, positionOf, middle, leftPart, rightPart}
 use Rattle.rules.specs.Refusals.{refusal}
 use Rattle.rules.specs.Requests.{refusing, ranged, batchEnd, view, nodeIn, requested}
 use Rattle.rules.specs.Table.{InUse, at, put, nextPair}
-use Rattle.rules.proofs.Batches.{sheets-join, sheets-none, no-batch, one-batch, granted-here, granted-other}
+use Rattle.laws.proofs.Batches.{sheets-join, sheets-none, no-batch, one-batch, granted-here, granted-other}
 use Rattle.rules.proofs.Granted.{Asked, in-use, Advancing, Answers, refuses, owns, advances, marks, expands, looks, answers}
 use Rattle.rules.proofs.Keeps.{wf-answers, requested-wf}
 use Rattle.rules.proofs.Nodes.{at-same, at-other, put-used, put-was}
 use Rattle.rules.proofs.Record.{WF, in-table, no-children}
 use Rattle.rules.proofs.Spare.{not-left, not-right}
 use Rattle.rules.proofs.States.{Stolen}
 use Rattle.rules.proofs.Store.{Swap}
 use Rattle.rules.proofs.Rooted.{rooted}
 use Rattle.rules.proofs.Tree.{Tree, leaf, fork}
 use Rattle.rules.proofs.Expand.{Among, parent, left, right, other, Slots, next, split-slots}
 
 pub record Whole (l : Ledger) (bs : List Batch) : Type 0 where
   pub wf : WF l

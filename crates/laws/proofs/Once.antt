@@ -11,30 +11,30 @@ use lib.IntN.{pos, negsuc}
 use lib.ListN.{replicate}
 use borrow.Author.Tests.{eq-eqb, ne-eqb, le-leb, lt-leb, lt-ltb, le-ltb}
 use Rattle.numbers.specs.Fields.{natOf}
 use Rattle.rules.specs.declared.Node.{Node}
 use Rattle.rules.specs.declared.Ledger.{Ledger}
 use Rattle.rules.specs.declared.Opening.{Opening}
 use Rattle.rules.specs.declared.Request.{Request}
 use Rattle.rules.specs.declared.Answer.{Answer}
 use Rattle.rules.specs.declared.Answered.{Answered}
-use Rattle.rules.specs.Limits.{otherSlots}
-use Rattle.rules.specs.Listing.{Batch, afterAll, isClaim, batchOf, batches, timesIn}
+use Rattle.rules.specs.Limits.{slotsAfter}
+use Rattle.laws.specs.Listing.{Batch, afterAll, isClaim, batchOf, batches, timesIn}
 use Rattle.rules.specs.Nodes.{blank, fresh, owned, moved, parted, childless, positionOf, middle, leftPart, rightPart}
 use Rattle.rules.specs.Opening.{opened, ledgerOf}
 use Rattle.rules.specs.Requests.{batchEnd, nodeIn, requested}
-use Rattle.rules.specs.Sheet40.{Inside, Gives, NeverGrantedTwice, GivenOnceAtMost}
+use Rattle.laws.specs.Sheet40.{Inside, Gives, NeverGrantedTwice, GivenOnceAtMost}
 use Rattle.rules.specs.Table.{InUse, at, put, nextPair, sumBy}
 use Rattle.rules.proofs.Granted.{Asked, in-use, Advancing, Answers, refuses, owns, advances, marks, expands, looks, answers}
-use Rattle.rules.proofs.Keeps.{requested-wf}
-use Rattle.rules.proofs.Onward.{requested-later, run-later}
+use Rattle.rules.proofs.Keeps.{requested-wf, requested-good}
+use Rattle.laws.proofs.Runs.{run-good, after-append}
 use Rattle.rules.proofs.Opens.{opened-wf}
 use Rattle.rules.proofs.Record.{WF, in-table, no-children}
-use Rattle.rules.proofs.Sheets.{begun}
-use Rattle.rules.proofs.Claims.{Claimed, is-claimed}
+use Rattle.rules.proofs.Opens.{begun}
+use Rattle.laws.proofs.Claims.{Claimed, is-claimed}
 use Rattle.rules.proofs.Spare.{spare}
 use Rattle.rules.proofs.Sums.{sumBy-put}
 use Rattle.rules.proofs.States.{Stolen}
 use Rattle.rules.proofs.Expand.{next, sums}
 
 -- the sheet s is unclaimed in the node x
 record Free (s : ℕ) (x : Node) : Type 0 where
@@ -171,7 +171,7 @@ unfolding afterAll
 run-free s l [] w = omega arith
 run-free s l (r ∷ rs) w =
     let k = requested l r .ledger in
-    omega (arith, requested-free s l r w, run-free s k rs (requested-later l r w .wf))
+    omega (arith, requested-free s l r w, run-free s k rs (requested-good l r w))
 
 -- a batch that has the sheet takes it away
 module _ (s : ℕ) (l : Ledger) (r : Request) (w : WF l) (g : Gives l r s) where
@@ -224,25 +224,20 @@ at-most-one s k x = go (freeIn s x) (counts s x)
 
 begun-free : (s : ℕ) (o : Opening) → freeAt s (ledgerOf o) ≤ 1
 unfolding freeAt opened
-begun-free s o = at-most-one s otherSlots (fresh (natOf (o .start)) (natOf (o .until)))
-
-pub after-append : (l : Ledger) (rs qs : List Request) → afterAll l (rs ++ qs) ≡ afterAll (afterAll l rs) qs
-unfolding afterAll
-after-append l [] qs = refl
-after-append l (r ∷ rs) qs = after-append (requested l r .ledger) rs qs
+begun-free s o = at-most-one s (slotsAfter 1) (fresh (natOf (o .start)) (natOf (o .until)))
 
 module _ (l : Ledger) (w : WF l) (before between : List Request) (r q : Request) (s : ℕ) (few : freeAt s l ≤ 1) where
   abbrev k : Ledger
   k = afterAll l before
 
   wf-k : WF k
-  wf-k = run-later l before w .wf
+  wf-k = run-good l before w
 
   not-twice : Gives k r s → Gives (afterAll k (r ∷ between)) q s → ⊥
   unfolding afterAll
   not-twice g h =
-      let a = requested-later k r wf-k .wf in
-      let b = run-later (requested k r .ledger) between a .wf in
+      let a = requested-good k r wf-k in
+      let b = run-good (requested k r .ledger) between a in
       omega
       (arith, run-free s l before w, taken s k r wf-k g, run-free s (requested k r .ledger) between a, taken s (afterAll (requested k r .ledger) between) q b h)
 
@@ -295,7 +290,7 @@ run-times s l [] w = omega arith
 run-times s l (r ∷ rs) w =
     let k = requested l r .ledger in
     omega
-    (arith, times-append s (batches k rs) (batchOf r (requested l r .answer)), given-or-free s l r w, run-times s k rs (requested-later l r w .wf))
+    (arith, times-append s (batches k rs) (batchOf r (requested l r .answer)), given-or-free s l r w, run-times s k rs (requested-good l r w))
 
 pub given-once-at-most : GivenOnceAtMost
 given-once-at-most o rs s e =

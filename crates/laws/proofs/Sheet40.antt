@@ -9,23 +9,25 @@ use native.Mathlib.Decide.{decLt}
 use lib.IntN.{pos, negsuc}
 use Rattle.numbers.specs.Progress.{negative, position}
 use Rattle.numbers.specs.Fields.{natOf}
 use Rattle.rules.specs.declared.Node.{Node}
 use Rattle.rules.specs.declared.Ledger.{Ledger}
 use Rattle.rules.specs.declared.Request.{Request}
 use Rattle.rules.specs.declared.Answer.{Answer}
-use Rattle.rules.specs.Listing.{afterAll}
+use Rattle.laws.specs.Listing.{afterAll}
 use Rattle.rules.specs.Nodes.{moved, parted, positionOf, middle, leftPart, rightPart}
 use Rattle.rules.specs.Requests.{batchEnd, nodeIn, requested}
-use Rattle.rules.specs.Sheet40.{ClaimGranted, MarkGranted, SplitGranted, InBatch, InNode, ClaimStands, MarkReadBack, MarkIsFinal, SharedOut, SplitStartsAtMark, SamePlace, ToClaimer, ToStealer, HerAnswer}
+use Rattle.laws.specs.Sheet40.{ClaimGranted, MarkGranted, SplitGranted, InBatch, InNode, ClaimStands, MarkReadBack, MarkIsFinal, SharedOut, SplitStartsAtMark, SamePlace, ToClaimer, ToStealer, HerAnswer}
 use Rattle.rules.specs.Table.{InUse, at, nextPair}
 use Rattle.rules.specs.WellFormed.{Sized}
-use Rattle.rules.proofs.Batches.{sheets-join}
+use Rattle.laws.proofs.Batches.{sheets-join}
 use Rattle.rules.proofs.Granted.{Asked, in-use}
 use Rattle.rules.proofs.Nodes.{at-same}
-use Rattle.rules.proofs.Onward.{Onward, requested-later, run-later}
+use Rattle.laws.proofs.Runs.{run-good}
+use Rattle.rules.proofs.Keeps.{requested-good}
+use Rattle.laws.proofs.Onward.{Onward, requested-later, run-later}
 use Rattle.rules.proofs.Record.{WF, in-table}
-use Rattle.rules.proofs.Claims.{Claimed, Parted, is-claimed, is-marked, is-parted, granted-wf}
+use Rattle.laws.proofs.Claims.{Claimed, Parted, is-claimed, is-marked, is-parted, granted-wf}
 use Rattle.rules.proofs.Expand.{Slots, split-slots}
 
 -- ---- the first step
 
@@ -101,7 +103,7 @@ module _ (l : Ledger) (r : Request) (later : List Request) (w : WF l) (g : Split
 
   new-onward : (m : ℕ) → InUse (requested l r .ledger) m → Onward (at (requested l r .ledger) m) (at next m)
   unfolding afterAll
-  new-onward = run-later (requested l r .ledger) later (requested-later l r w .wf) .each
+  new-onward = run-later (requested l r .ledger) later (requested-good l r w) .each
 
   position-in-half : (s : ℕ) → s ≡ positionOf (at l (nodeIn r))
       → InNode s (at next left) ⊎ InNode s (at next (left + 1))
@@ -201,7 +203,7 @@ module _ (l : Ledger) (claim steal : Request) (between : List Request) (sized : 
           ap natOf (sym (b .back)) ∙ ap position (sym (o .stands (b .mark)))
 
       later-wf : WF k
-      later-wf = run-later l (steal ∷ between) w .wf
+      later-wf = run-good l (steal ∷ between) w
 
 pub her-answer : HerAnswer
 her-answer l claim steal between sized place =

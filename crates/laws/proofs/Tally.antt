@@ -7,25 +7,25 @@ use native.Mathlib.Omega.{arith}
 use native.Mathlib.Decide.{ℕ-discrete}
 use lib.Dec.{eqb}
 use borrow.Author.Tests.{eq-eqb, ne-eqb}
 use Rattle.rules.specs.declared.Ledger.{Ledger}
 use Rattle.rules.specs.declared.Request.{Request}
 use Rattle.rules.specs.declared.Answered.{Answered}
-use Rattle.rules.specs.Listing.{Batch, batchIn, batchOf, batches}
+use Rattle.laws.specs.Listing.{Batch, batchIn, batchOf, batches}
 use Rattle.rules.specs.Nodes.{positionOf}
 use Rattle.rules.specs.Opening.{ledgerOf}
 use Rattle.rules.specs.Refusals.{refusal}
 use Rattle.rules.specs.Requests.{refusing, ranged, batchEnd, view, nodeIn, requested}
-use Rattle.rules.specs.Story.{Story, whole, parted, claimed, split, onNode, told, toldAll, batchesIn, tally, StoryHasAll}
+use Rattle.laws.specs.Story.{Story, whole, parted, claimed, split, onNode, told, toldAll, batchesIn, tally, StoryHasAll}
 use Rattle.rules.specs.Table.{InUse, at, nextPair}
-use Rattle.rules.proofs.Batches.{no-batch, one-batch}
+use Rattle.laws.proofs.Batches.{no-batch, one-batch}
 use Rattle.rules.proofs.Granted.{in-use, Answers, refuses, owns, advances, marks, expands, looks, answers}
 use Rattle.rules.proofs.Keeps.{requested-wf}
 use Rattle.rules.proofs.Opens.{opened-wf}
 use Rattle.rules.proofs.Record.{WF}
-use Rattle.rules.proofs.Story.{Stands, is-whole, is-parted, requested-stands, begins}
-use Rattle.rules.proofs.Sheets.{begun}
+use Rattle.laws.proofs.Story.{Stands, is-whole, is-parted, requested-stands, begins}
+use Rattle.rules.proofs.Opens.{begun}
 use Rattle.rules.proofs.Rooted.{rooted}
 use Rattle.rules.proofs.Tree.{sameAs, same-one, same-none, Tree, leaf, fork, times}
 
 -- how often a number stands in the story, of nodes in use
 unfoldable live : ℕ → Story → ℕ

@@ -5,21 +5,21 @@ use mathlib.Core.Logic.{_≢_}
 use mathlib.Core.List.{List}
 use native.Mathlib.Omega.{arith}
 use borrow.Author.Tests.{eq-eqb, ne-eqb}
 use Rattle.rules.specs.declared.Ledger.{Ledger}
-use Rattle.rules.specs.Listed.{listed, ListedLists, ListedExamples}
-use Rattle.rules.specs.Listing.{sheets, Batch, isClaim, batchOf, batches, grantedFrom, Lists, ends, parts}
+use Rattle.laws.specs.Listed.{listed, ListedLists, ListedExamples}
+use Rattle.laws.specs.Listing.{sheets, Batch, isClaim, batchOf, batches, grantedFrom, Lists, ends, parts}
 use Rattle.rules.specs.Limits.{opens}
 use Rattle.rules.specs.Nodes.{middle, leftPart, rightPart}
 use Rattle.rules.specs.Opening.{opened, opening}
 use Rattle.rules.specs.States.{stateOf, stolenOf}
 use Rattle.rules.specs.Table.{at, put, nextPair, grown, sumBy, stolenIn}
 use Rattle.rules.specs.WellFormed.{upTo, aloneRule, childRule, nodeRule, leftIs, pairRule, unusedRule, wellFormed}
 use Rattle.rules.specs.Refusals.{ownCode, advanceCode, markCode, expandCode, kindCode, refusal}
 use Rattle.rules.specs.Requests.{owning, batchEnd, advancing, marking, expanding, looking, granted, decided, view, changed, answered, requested}
 use Rattle.rules.proofs.Record.{rules}
 use Rattle.rules.proofs.Rooted.{rooted}
 use Rattle.rules.proofs.Tree.{Tree, leaf, fork}
 use Rattle.rules.proofs.TreeSum.{sumTree, size, size-some, rooted-size}
 
 -- as deep as the tree is large
 listed-lists-at : (l : Ledger) (bs : List Batch) (depth : ℕ) {n : ℕ} (t : Tree l n) → size t ≤ depth → Lists l bs n (listed depth l bs n)

@@ -8,17 +8,17 @@ use mathlib.Core.List.{List, _∷_, _++_}
 use Prim.Native.Nat.{ℕ, _+_, _≤_, _<_}
 use lib.IntN.{pos}
 use Rattle.numbers.specs.Fields.{natOf}
 use Rattle.rules.specs.declared.Node.{Node}
 use Rattle.rules.specs.declared.Ledger.{Ledger}
 use Rattle.rules.specs.declared.Opening.{Opening}
 use Rattle.rules.specs.declared.Request.{Request}
 use Rattle.rules.specs.declared.Answer.{Answer}
-use Rattle.rules.specs.Listing.{unclaimedOf, afterAll, reached, batches, timesIn}
+use Rattle.laws.specs.Listing.{unclaimedOf, afterAll, reached, batches, timesIn}
 use Rattle.rules.specs.Nodes.{marked, positionOf, middle}
 use Rattle.rules.specs.Opening.{opening}
 use Rattle.rules.specs.Requests.{nodeIn, requested}
 use Rattle.rules.specs.Table.{at}
 use Rattle.rules.specs.WellFormed.{Sized}
 
 -- a request of that kind that the ledger grants
 pub record IsGranted (kind : ℕ) (l : Ledger) (r : Request) : Type 0 where

@@ -6,15 +6,15 @@ use mathlib.Core.Bool.{cond}
 use mathlib.Core.List.{List, [], _∷_, _++_}
 use lib.Dec.{eqb}
 use Rattle.numbers.specs.Fields.{natOf}
 use Rattle.rules.specs.declared.Ledger.{Ledger}
 use Rattle.rules.specs.declared.Opening.{Opening}
 use Rattle.rules.specs.declared.Request.{Request}
 use Rattle.rules.specs.declared.Answer.{Answer}
-use Rattle.rules.specs.Listing.{sheets, unclaimedOf, reached, Batch, batchIn, batches}
+use Rattle.laws.specs.Listing.{sheets, unclaimedOf, reached, Batch, batchIn, batches}
 use Rattle.rules.specs.Moves.{byKind}
 use Rattle.rules.specs.Opening.{opening}
 use Rattle.rules.specs.Requests.{nodeIn, requested}
 use Rattle.rules.specs.Table.{at}
 
 -- the story of a node: its number, the batches granted from it, the oldest first, and the stories of its children
 pub data Story : Type 0 where
