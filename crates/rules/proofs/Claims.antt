@@ -10,7 +10,7 @@ use Rattle.rules.specs.declared.Ledger.{Ledger}
 use Rattle.rules.specs.declared.Request.{Request}
 use Rattle.rules.specs.declared.Answered.{Answered}
 use Rattle.rules.specs.Limits.{maxNodes}
-use Rattle.rules.specs.Moves.{byKind}
+use Rattle.rules.specs.Asks.{ADVANCE, MARK, EXPAND, byKind}
 use Rattle.rules.specs.Nodes.{moved, parted, positionOf, middle, leftPart, rightPart}
 use Rattle.rules.specs.Requests.{refused, ranged, split, batchEnd, nodeIn, answered, requested}
 use Rattle.rules.specs.Sheet40.{IsGranted, ClaimGranted, MarkGranted, SplitGranted}
@@ -70,13 +70,13 @@ module _ (l : Ledger) (r : Request) where
       rw (← g .kind-is, e) (granted-as (answers l r) (rw e at (g .code-is)))
 
   pub is-claimed : ClaimGranted l r → Claimed l r (requested l r)
-  is-claimed g = is-granted 2 g
+  is-claimed g = is-granted ADVANCE g
 
   pub is-marked : MarkGranted l r → Marked l r (requested l r)
-  is-marked g = is-granted 3 g
+  is-marked g = is-granted MARK g
 
   pub is-parted : SplitGranted l r → Parted l r (requested l r)
-  is-parted g = is-granted 4 g
+  is-parted g = is-granted EXPAND g
 
   pub granted-wf : (kind : ℕ) → length (l .nodes) ≡ maxNodes → IsGranted kind l r → WF l
   granted-wf kind slots g = rules l slots (granted-answered l r (g .code-is) .0)

@@ -14,6 +14,7 @@ use Rattle.rules.specs.declared.Node.{Node}
 use Rattle.rules.specs.declared.Ledger.{Ledger}
 use Rattle.rules.specs.declared.Request.{Request}
 use Rattle.rules.specs.declared.Answer.{Answer}
+use Rattle.rules.specs.Asks.{ADVANCE, MARK, EXPAND}
 use Rattle.rules.specs.Limits.{maxNodes}
 use Rattle.rules.specs.Listing.{afterAll}
 use Rattle.rules.specs.Nodes.{moved, parted, positionOf, middle, leftPart, rightPart}
@@ -42,7 +43,7 @@ claim-stands l r g =
 
 pub mark-read-back : MarkReadBack
 mark-read-back l r slots g =
-    let w = granted-wf l r 3 slots g in
+    let w = granted-wf l r MARK slots g in
     let m = is-marked l r g in
     let h = m .facts .here in
     rw
@@ -59,7 +60,7 @@ module _ (l : Ledger) (r : Request) (between : List Request) (w : WF l) (asked :
 
 pub mark-is-final : MarkIsFinal
 mark-is-final l mark claim between slots same g c =
-    let w = granted-wf l mark 3 slots g in
+    let w = granted-wf l mark MARK slots g in
     let b = mark-read-back l mark slots g in
     let o = onward-since l mark between w (is-marked l mark g .asked) in
     let plain = rw same at (claim-stands (afterAll l (mark ∷ between)) claim c .unmarked) in
@@ -70,7 +71,7 @@ mark-is-final l mark claim between slots same g c =
 pub split-starts-at-mark : SplitStartsAtMark
 unfolding leftPart rightPart middle
 split-starts-at-mark l r slots g =
-    let w = granted-wf l r 4 slots g in
+    let w = granted-wf l r EXPAND slots g in
     let p = is-parted l r g in
     let x = at l (nodeIn r) in
     let low = p .asked .node .low in
@@ -157,7 +158,7 @@ module _ (l : Ledger) (claim steal : Request) (between : List Request) (slots : 
       k = afterAll l (claim ∷ between)
 
       w : WF l
-      w = granted-wf l claim 2 slots g
+      w = granted-wf l claim ADVANCE slots g
 
       c : Claimed l claim (requested l claim)
       c = is-claimed l claim g
@@ -199,7 +200,7 @@ module _ (l : Ledger) (claim steal : Request) (between : List Request) (slots : 
       k = afterAll l (steal ∷ between)
 
       w : WF l
-      w = granted-wf l steal 3 slots g
+      w = granted-wf l steal MARK slots g
 
       marked-at : natOf (steal .position) ≡ positionOf (at k n)
       marked-at =

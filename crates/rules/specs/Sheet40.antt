@@ -14,6 +14,7 @@ use Rattle.rules.specs.declared.Ledger.{Ledger}
 use Rattle.rules.specs.declared.Opening.{Opening}
 use Rattle.rules.specs.declared.Request.{Request}
 use Rattle.rules.specs.declared.Answer.{Answer}
+use Rattle.rules.specs.Asks.{ADVANCE, MARK, EXPAND}
 use Rattle.rules.specs.Limits.{maxNodes}
 use Rattle.rules.specs.Listing.{unclaimedOf, afterAll, reached, batches, timesIn}
 use Rattle.rules.specs.Nodes.{marked, positionOf, middle}
@@ -26,15 +27,14 @@ pub record IsGranted (kind : ℕ) (l : Ledger) (r : Request) : Type 0 where
   pub kind-is : natOf (r .kind) ≡ kind
   pub code-is : requested l r .answer .code ≡ 0
 
--- 2 is advance, 3 mark and 4 expand
 abbrev pub ClaimGranted : Ledger → Request → Type 0
-ClaimGranted = IsGranted 2
+ClaimGranted = IsGranted ADVANCE
 
 abbrev pub MarkGranted : Ledger → Request → Type 0
-MarkGranted = IsGranted 3
+MarkGranted = IsGranted MARK
 
 abbrev pub SplitGranted : Ledger → Request → Type 0
-SplitGranted = IsGranted 4
+SplitGranted = IsGranted EXPAND
 
 -- the sheet s lies in a..b, b exclusive
 pub record Inside (s a b : ℕ) : Type 0 where

@@ -6,6 +6,7 @@ use native.Mathlib.Omega.{arith}
 use Rattle.rules.specs.declared.Ledger.{Ledger}
 use Rattle.rules.specs.declared.Answer.{Answer}
 use Rattle.rules.specs.declared.Answered.{Answered}
+use Rattle.rules.specs.Asks.{look}
 use Rattle.rules.specs.States.{AVAILABLE, stateOf}
 use Rattle.rules.specs.Table.{at}
 use Rattle.rules.specs.Requests.{requested}
@@ -13,7 +14,6 @@ use Rattle.rules.proofs.Record.{WF}
 use Rattle.steps.specs.declared.Place.the-variants.{Seek, Take}
 use Rattle.steps.specs.declared.Side.the-variants.{Right}
 use Rattle.steps.specs.declared.Team.{Team}
-use Rattle.steps.specs.Asks.{look}
 use Rattle.steps.specs.Records.{freshTeam}
 use Rattle.steps.specs.Places.{Search, scan, searchOf, seekMoves, markMoves}
 use Rattle.steps.proofs.Stages.{parting, stageOf}
