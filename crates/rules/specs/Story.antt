@@ -11,7 +11,7 @@ use Rattle.rules.specs.declared.Opening.{Opening}
 use Rattle.rules.specs.declared.Request.{Request}
 use Rattle.rules.specs.declared.Answer.{Answer}
 use Rattle.rules.specs.Listing.{sheets, unclaimedOf, reached, Batch, batchIn, batches}
-use Rattle.rules.specs.Moves.{byKind}
+use Rattle.rules.specs.Asks.{byKind}
 use Rattle.rules.specs.Opening.{opening}
 use Rattle.rules.specs.Requests.{nodeIn, requested}
 use Rattle.rules.specs.Table.{at}
