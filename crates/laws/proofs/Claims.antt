@@ -8,7 +8,7 @@ use Rattle.numbers.specs.Fields.{natOf}
 use Rattle.rules.specs.declared.Ledger.{Ledger}
 use Rattle.rules.specs.declared.Request.{Request}
 use Rattle.rules.specs.declared.Answered.{Answered}
-use Rattle.rules.specs.Moves.{byKind}
+use Rattle.rules.specs.Asks.{ADVANCE, MARK, EXPAND, byKind}
 use Rattle.rules.specs.Nodes.{moved, parted, positionOf, middle, leftPart, rightPart}
 use Rattle.rules.specs.Requests.{refused, ranged, split, batchEnd, nodeIn, answered, requested}
 use Rattle.laws.specs.Sheet40.{IsGranted, ClaimGranted, MarkGranted, SplitGranted}
@@ -68,13 +68,13 @@ module _ (l : Ledger) (r : Request) where
       rw (← g .kind-is, e) (granted-as (answers l r) (rw e at (g .code-is)))
 
   pub is-claimed : ClaimGranted l r → Claimed l r (requested l r)
-  is-claimed g = is-granted 2 g
+  is-claimed g = is-granted ADVANCE g
 
   pub is-marked : MarkGranted l r → Marked l r (requested l r)
-  is-marked g = is-granted 3 g
+  is-marked g = is-granted MARK g
 
   pub is-parted : SplitGranted l r → Parted l r (requested l r)
-  is-parted g = is-granted 4 g
+  is-parted g = is-granted EXPAND g
 
   pub granted-wf : (kind : ℕ) → Sized l → IsGranted kind l r → WF l
   granted-wf kind sized g = rules l (both-sound sized (granted-answered l r (g .code-is) .0))

@@ -17,6 +17,7 @@ use Rattle.rules.specs.declared.Opening.{Opening}
 use Rattle.rules.specs.declared.Request.{Request}
 use Rattle.rules.specs.declared.Answer.{Answer}
 use Rattle.rules.specs.declared.Answered.{Answered}
+use Rattle.rules.specs.Asks.{ADVANCE}
 use Rattle.rules.specs.Limits.{slotsAfter}
 use Rattle.laws.specs.Listing.{Batch, afterAll, isClaim, batchOf, batches, timesIn}
 use Rattle.rules.specs.Nodes.{blank, fresh, owned, moved, parted, childless, positionOf, middle, leftPart, rightPart}
@@ -260,7 +261,7 @@ times-append s (b ∷ bs) cs = omega (arith, times-append s bs cs)
 given-or-free : (s : ℕ) (l : Ledger) (r : Request) → WF l
     → timesIn s (batchOf r (requested l r .answer)) + freeAt s (requested l r .ledger) ≤ freeAt s l
 unfolding timesIn batchOf isClaim
-given-or-free s l r w = go (ℕ-discrete (natOf (r .kind)) 2) (ℕ-discrete (a .code) 0) (decLe (a .from) s) (decLt s (a .to))
+given-or-free s l r w = go (ℕ-discrete (natOf (r .kind)) ADVANCE) (ℕ-discrete (a .code) 0) (decLe (a .from) s) (decLt s (a .to))
   where
     a : Answer
     a = requested l r .answer
@@ -268,20 +269,20 @@ given-or-free s l r w = go (ℕ-discrete (natOf (r .kind)) 2) (ℕ-discrete (a .
     less : freeAt s (requested l r .ledger) ≤ freeAt s l
     less = requested-free s l r w
 
-    go : Dec (natOf (r .kind) ≡ 2) → Dec (a .code ≡ 0) → Dec (a .from ≤ s) → Dec (s < a .to)
+    go : Dec (natOf (r .kind) ≡ ADVANCE) → Dec (a .code ≡ 0) → Dec (a .from ≤ s) → Dec (s < a .to)
         → timesIn s (batchOf r a) + freeAt s (requested l r .ledger) ≤ freeAt s l
-    go (no other) granted low high = rw (ne-eqb (natOf (r .kind)) 2 other) (omega (arith, less))
-    go (yes claim) (no refused) low high = rw (eq-eqb (natOf (r .kind)) 2 claim, ne-eqb (a .code) 0 refused) (omega (arith, less))
+    go (no other) granted low high = rw (ne-eqb (natOf (r .kind)) ADVANCE other) (omega (arith, less))
+    go (yes claim) (no refused) low high = rw (eq-eqb (natOf (r .kind)) ADVANCE claim, ne-eqb (a .code) 0 refused) (omega (arith, less))
     go (yes claim) (yes granted) (no above) high =
-        rw (eq-eqb (natOf (r .kind)) 2 claim, eq-eqb (a .code) 0 granted, lt-leb (a .from) s (omega arith)) (omega (arith, less))
+        rw (eq-eqb (natOf (r .kind)) ADVANCE claim, eq-eqb (a .code) 0 granted, lt-leb (a .from) s (omega arith)) (omega (arith, less))
     go (yes claim) (yes granted) (yes low) (no below) =
         rw
-        (eq-eqb (natOf (r .kind)) 2 claim, eq-eqb (a .code) 0 granted, le-leb (a .from) s low, le-ltb s (a .to) (omega arith))
+        (eq-eqb (natOf (r .kind)) ADVANCE claim, eq-eqb (a .code) 0 granted, le-leb (a .from) s low, le-ltb s (a .to) (omega arith))
         (omega (arith, less))
     go (yes claim) (yes granted) (yes low) (yes high) =
         let g : Gives l r s = record { claim = record { kind-is = claim; code-is = granted }; inside = record { low = low; high = high } } in
         rw
-        (eq-eqb (natOf (r .kind)) 2 claim, eq-eqb (a .code) 0 granted, le-leb (a .from) s low, lt-ltb s (a .to) high)
+        (eq-eqb (natOf (r .kind)) ADVANCE claim, eq-eqb (a .code) 0 granted, le-leb (a .from) s low, lt-ltb s (a .to) high)
         (omega (arith, taken s l r w g))
 
 run-times : (s : ℕ) (l : Ledger) (rs : List Request) → WF l → timesIn s (batches l rs) + freeAt s (afterAll l rs) ≤ freeAt s l

@@ -13,6 +13,7 @@ use Rattle.rules.specs.declared.Node.{Node}
 use Rattle.rules.specs.declared.Ledger.{Ledger}
 use Rattle.rules.specs.declared.Request.{Request}
 use Rattle.rules.specs.declared.Answer.{Answer}
+use Rattle.rules.specs.Asks.{ADVANCE, MARK, EXPAND}
 use Rattle.laws.specs.Listing.{afterAll}
 use Rattle.rules.specs.Nodes.{moved, parted, positionOf, middle, leftPart, rightPart}
 use Rattle.rules.specs.Requests.{batchEnd, nodeIn, requested}
@@ -41,7 +42,7 @@ claim-stands l r g =
 
 pub mark-read-back : MarkReadBack
 mark-read-back l r sized g =
-    let w = granted-wf l r 3 sized g in
+    let w = granted-wf l r MARK sized g in
     let m = is-marked l r g in
     let h = m .facts .here in
     rw
@@ -58,7 +59,7 @@ module _ (l : Ledger) (r : Request) (between : List Request) (w : WF l) (asked :
 
 pub mark-is-final : MarkIsFinal
 mark-is-final l mark claim between sized same g c =
-    let w = granted-wf l mark 3 sized g in
+    let w = granted-wf l mark MARK sized g in
     let b = mark-read-back l mark sized g in
     let o = onward-since l mark between w (is-marked l mark g .asked) in
     let plain = rw same at (claim-stands (afterAll l (mark ∷ between)) claim c .unmarked) in
@@ -69,7 +70,7 @@ mark-is-final l mark claim between sized same g c =
 pub split-starts-at-mark : SplitStartsAtMark
 unfolding leftPart rightPart middle
 split-starts-at-mark l r sized g =
-    let w = granted-wf l r 4 sized g in
+    let w = granted-wf l r EXPAND sized g in
     let p = is-parted l r g in
     let u = in-use l r (p .asked) in
     let q = split-slots l w (nodeIn r) u (p .facts) in
@@ -152,7 +153,7 @@ module _ (l : Ledger) (claim steal : Request) (between : List Request) (sized : 
       k = afterAll l (claim ∷ between)
 
       w : WF l
-      w = granted-wf l claim 2 sized g
+      w = granted-wf l claim ADVANCE sized g
 
       c : Claimed l claim (requested l claim)
       c = is-claimed l claim g
@@ -194,7 +195,7 @@ module _ (l : Ledger) (claim steal : Request) (between : List Request) (sized : 
       k = afterAll l (steal ∷ between)
 
       w : WF l
-      w = granted-wf l steal 3 sized g
+      w = granted-wf l steal MARK sized g
 
       marked-at : natOf (steal .position) ≡ positionOf (at k n)
       marked-at =

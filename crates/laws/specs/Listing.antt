@@ -11,6 +11,7 @@ use Rattle.rules.specs.declared.Ledger.{Ledger}
 use Rattle.rules.specs.declared.Opening.{Opening}
 use Rattle.rules.specs.declared.Request.{Request}
 use Rattle.rules.specs.declared.Answer.{Answer}
+use Rattle.rules.specs.Asks.{ADVANCE}
 use Rattle.rules.specs.Nodes.{positionOf}
 use Rattle.rules.specs.Opening.{opening}
 use Rattle.rules.specs.Requests.{nodeIn, requested}
@@ -51,7 +52,7 @@ pub record Batch : Type 0 where
 
 -- an advance that was granted: it is read off the answer, and off nothing else
 unfoldable pub isClaim : Request → Answer → Bool
-isClaim r a = eqb (natOf (r .kind)) 2 && eqb (a .code) 0
+isClaim r a = eqb (natOf (r .kind)) ADVANCE && eqb (a .code) 0
 
 abbrev pub batchIn : Request → Answer → Batch
 batchIn r a = record { team = natOf (r .team); node = nodeIn r; «from» = a .from; to = a .to }

@@ -13,6 +13,7 @@ use Rattle.rules.specs.declared.Ledger.{Ledger}
 use Rattle.rules.specs.declared.Opening.{Opening}
 use Rattle.rules.specs.declared.Request.{Request}
 use Rattle.rules.specs.declared.Answer.{Answer}
+use Rattle.rules.specs.Asks.{ADVANCE, MARK, EXPAND}
 use Rattle.laws.specs.Listing.{unclaimedOf, afterAll, reached, batches, timesIn}
 use Rattle.rules.specs.Nodes.{marked, positionOf, middle}
 use Rattle.rules.specs.Opening.{opening}
@@ -25,15 +26,14 @@ pub record IsGranted (kind : ℕ) (l : Ledger) (r : Request) : Type 0 where
   pub kind-is : natOf (r .kind) ≡ kind
   pub code-is : requested l r .answer .code ≡ 0
 
--- 2 is advance, 3 mark and 4 expand
 abbrev pub ClaimGranted : Ledger → Request → Type 0
-ClaimGranted = IsGranted 2
+ClaimGranted = IsGranted ADVANCE
 
 abbrev pub MarkGranted : Ledger → Request → Type 0
-MarkGranted = IsGranted 3
+MarkGranted = IsGranted MARK
 
 abbrev pub SplitGranted : Ledger → Request → Type 0
-SplitGranted = IsGranted 4
+SplitGranted = IsGranted EXPAND
 
 -- the sheet s lies in a..b, b exclusive
 pub record Inside (s a b : ℕ) : Type 0 where

@@ -5,15 +5,15 @@ use rules::Node;
 use rules::Opening;
 use rules::Request;
 
-pub(crate) const OWN: i32 = 1;
+pub(crate) const OWN: i32 = Request::OWN as i32;
 
-pub(crate) const ADVANCE: i32 = 2;
+pub(crate) const ADVANCE: i32 = Request::ADVANCE as i32;
 
-pub(crate) const MARK: i32 = 3;
+pub(crate) const MARK: i32 = Request::MARK as i32;
 
-pub(crate) const EXPAND: i32 = 4;
+pub(crate) const EXPAND: i32 = Request::EXPAND as i32;
 
-pub(crate) const LOOK: i32 = 5;
+pub(crate) const LOOK: i32 = Request::LOOK as i32;
 
 pub(crate) fn opened(start: i32, until: i32, teams: i32, nodes: i32) -> Ledger {
     let o = ledger::open(Opening {
@@ -56,16 +56,6 @@ pub(crate) fn rooted(until: i32, nodes: i32, progress: i32, owner: u32) -> Ledge
     )
 }
 
-pub(crate) fn of(kind: i32, team: i32, node: i32, position: i32, amount: i32) -> Request {
-    Request {
-        kind: kind,
-        team: team,
-        node: node,
-        position: position,
-        amount: amount,
-    }
-}
-
 // The ledger after a request.
 pub(crate) fn after(
     l: Ledger,
@@ -75,7 +65,7 @@ pub(crate) fn after(
     position: i32,
     amount: i32,
 ) -> Ledger {
-    let done = ledger::request(l, of(kind, team, node, position, amount));
+    let done = ledger::request(l, Request::new(kind, team, node, position, amount));
     let m = done.ledger;
     m
 }
@@ -89,7 +79,7 @@ pub(crate) fn show(
     position: i32,
     amount: i32,
 ) -> Ledger {
-    let r = of(kind, team, node, position, amount);
+    let r = Request::new(kind, team, node, position, amount);
     let done = ledger::request(l, r);
     let m = done.ledger;
     let a = done.answer;

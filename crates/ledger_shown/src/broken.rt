@@ -3,11 +3,12 @@
 use crate::ask;
 use crate::print;
 use rules::Ledger;
+use rules::Request;
 
 // Prints the number of the rule that is broken, 0 for none, the ledger's numbers and a node of it, whether it is well formed, what a look
 // answers, and the count.
 fn show(rule: u32, l: Ledger, node: i32) {
-    let done = ledger::request(l, ask::of(ask::LOOK, 1, 1, 0, 0));
+    let done = ledger::request(l, Request::new(ask::LOOK, 1, 1, 0, 0));
     let a = done.answer;
     print::text(b"rule");
     print::number(rule);

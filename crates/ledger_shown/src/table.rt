@@ -3,6 +3,7 @@ use crate::ask;
 use crate::print;
 use rules::Change;
 use rules::Node;
+use rules::Request;
 use rules::View;
 
 // The states to which own, advance, mark, expand and look may lead from a state, as the sum of 2 to the power of each.
@@ -10,11 +11,11 @@ fn row(state: u32) {
     print::text(b"moves from");
     print::number(state);
     print::text(b":");
-    print::number(nodes::moves::moves_of(state, 1));
-    print::number(nodes::moves::moves_of(state, 2));
-    print::number(nodes::moves::moves_of(state, 3));
-    print::number(nodes::moves::moves_of(state, 4));
-    print::number(nodes::moves::moves_of(state, 5));
+    print::number(nodes::moves::moves_of(state, Request::OWN));
+    print::number(nodes::moves::moves_of(state, Request::ADVANCE));
+    print::number(nodes::moves::moves_of(state, Request::MARK));
+    print::number(nodes::moves::moves_of(state, Request::EXPAND));
+    print::number(nodes::moves::moves_of(state, Request::LOOK));
     print::text(b"\n");
 }
 
@@ -61,7 +62,7 @@ fn expand(nodes: u32, used: u32, x: Node) {
         pair: 4,
         node: x,
     };
-    let o = requests::decide(v, ask::of(ask::EXPAND, 2, 1, 0, 0));
+    let o = requests::decide(v, Request::new(ask::EXPAND, 2, 1, 0, 0));
     let a = o.answer;
     let c = o.change;
     print::text(b"expand with nodes");

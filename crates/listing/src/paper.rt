@@ -12,6 +12,7 @@ use crate::Entry;
 use line_rules::Written;
 use listing_rules::Listed;
 use rules::Opening;
+use rules::Request;
 use steps::Turned;
 
 // A line at the start of an area.
@@ -65,7 +66,7 @@ pub(crate) fn note(out: &mut [u8], done: Listed, team: i32, t: Turned) -> Listed
     let a = t.answer;
     let node = numbers::to_signed(t.node);
     let from = numbers::to_signed(a.from);
-    if (t.kind == 2) & (a.code == 0) {
+    if (t.kind == Request::ADVANCE) & (a.code == 0) {
         let to = numbers::to_signed(a.to);
         return print(
             out,
@@ -78,7 +79,7 @@ pub(crate) fn note(out: &mut [u8], done: Listed, team: i32, t: Turned) -> Listed
             },
         );
     }
-    if (t.kind == 4) & (a.code == 0) {
+    if (t.kind == Request::EXPAND) & (a.code == 0) {
         let left = numbers::to_signed(a.left);
         return print(
             out,

@@ -16,6 +16,7 @@ use Rattle.rules.specs.declared.Opening.{Opening}
 use Rattle.rules.specs.declared.Request.{Request}
 use Rattle.rules.specs.declared.Answer.{Answer}
 use Rattle.rules.specs.declared.Answered.{Answered}
+use Rattle.rules.specs.Asks.{OWN, ADVANCE, MARK, EXPAND, LOOK}
 use Rattle.rules.specs.Limits.{opens}
 use Rattle.laws.specs.Listing.{Batch, isClaim, batchOf, batches, afterAll}
 use Rattle.rules.specs.Nodes.{positionOf, middle}
@@ -75,7 +76,7 @@ split-noted n left mid hn hl =
 
 -- ---- a request
 
-silent : (team : ℤ) (kind node : ℕ) (a : Answer) → eqb kind 2 ≡ false → eqb kind 4 ≡ false → noteOf team kind node a ≡ []
+silent : (team : ℤ) (kind node : ℕ) (a : Answer) → eqb kind ADVANCE ≡ false → eqb kind EXPAND ≡ false → noteOf team kind node a ≡ []
 unfolding noteOf
 silent team kind node a e f = rw (e, f)
 
@@ -87,7 +88,7 @@ module _ (l : Ledger) (w : WF l) (q : Request) (team : ℤ) (is : natOf team ≡
   Told a = Noted 1 (noteOf team (natOf (q .kind)) n (a .answer)) (batchOf q (a .answer))
 
   -- no claim, and no line
-  other : (a : Answer) (k : ℕ) → natOf (q .kind) ≡ k → eqb k 2 ≡ false → eqb k 4 ≡ false → Noted 1 (noteOf team (natOf (q .kind)) n a) (batchOf q a)
+  other : (a : Answer) (k : ℕ) → natOf (q .kind) ≡ k → eqb k ADVANCE ≡ false → eqb k EXPAND ≡ false → Noted 1 (noteOf team (natOf (q .kind)) n a) (batchOf q a)
   unfolding batchOf isClaim
   other a k e two four = rw (e, silent team k n a two four, two) (nothing-noted 1)
 
@@ -96,16 +97,16 @@ module _ (l : Ledger) (w : WF l) (q : Request) (team : ℤ) (is : natOf team ≡
 
   noted : {a : Answered} → Answers l q a → Told a
   noted (refuses ne) = unfold noteOf batchOf isClaim in (simp (ne-eqb _ 0 ne, and-false) (nothing-noted 1))
-  noted (owns k a f) = other _ 1 k refl refl
+  noted (owns k a f) = other _ OWN k refl refl
   noted (advances k a f) =
       unfold noteOf batchOf isClaim in
       (rw (k, ← is, positive)
       (batch-noted (natOf team) n (positionOf (at l n)) (batchEnd (at l n) q) (omega (arith, a .team .high, w .limits .teams-high)) (omega (arith, a .node .high, used-high l w)) (omega (arith, w .alone n (in-use l q a) .high, small a)) (omega (arith, f .end, small a))))
-  noted (marks k a f) = other _ 3 k refl refl
+  noted (marks k a f) = other _ MARK k refl refl
   noted (expands k a f) =
       unfold noteOf batchOf isClaim in
       (rw k (split-noted n (nextPair l) (middle (at l n)) (omega (arith, a .node .high, used-high l w)) (omega (arith, pair-room l w n (in-use l q a) f, w .limits .room-high))))
-  noted (looks k a) = other _ 5 k refl refl
+  noted (looks k a) = other _ LOOK k refl refl
 
   request-noted : Told (requested l q)
   request-noted = rw (requested-wf l q w) (noted (answers l q))

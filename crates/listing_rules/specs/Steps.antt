@@ -10,6 +10,7 @@ use Rattle.numbers.specs.Progress.{signed}
 use Rattle.rules.specs.declared.Opening.{Opening}
 use Rattle.rules.specs.declared.Answer.{Answer}
 use Rattle.rules.specs.declared.Ledger.{Ledger}
+use Rattle.rules.specs.Asks.{ADVANCE, EXPAND}
 use Rattle.rules.specs.Limits.{maxTeams}
 use Rattle.rules.specs.Count.{unclaimed}
 use Rattle.steps.specs.declared.Stepped.{Stepped}
@@ -32,8 +33,8 @@ grants wanted kind a = eqb kind wanted && eqb (a .code) 0
 -- no number of a run is past the largest of them.
 unfoldable pub noteOf : ℤ → ℕ → ℕ → Answer → List Line
 noteOf team kind node a =
-    cond (grants 2 kind a) (batchLine team (signed node) (signed (a .«from»)) (signed (a .to)) ∷ [])
-    (cond (grants 4 kind a) (splitLine (signed node) (signed (a .left)) (signed (a .«from»)) ∷ [])
+    cond (grants ADVANCE kind a) (batchLine team (signed node) (signed (a .«from»)) (signed (a .to)) ∷ [])
+    (cond (grants EXPAND kind a) (splitLine (signed node) (signed (a .left)) (signed (a .«from»)) ∷ [])
     [])
 
 abbrev pub stepLine : ℤ → Stepped → List Line

@@ -2,7 +2,7 @@
 use Prim.Native.Nat.{ℕ}
 use mathlib.Core.Bool.{Bool, cond, _&&_}
 use lib.Dec.{leb}
-use Rattle.rules.specs.Moves.{leads, asNumber}
+use Rattle.rules.specs.Moves.{lastState, lastMover, leads, asNumber}
 
 unfoldable pub movesOf : ℕ → ℕ → ℕ
-movesOf state kind = cond (leb 1 state && leb state 5 && leb 1 kind && leb kind 5) (asNumber (leads state kind)) 0
+movesOf state kind = cond (leb 1 state && leb state lastState && leb 1 kind && leb kind lastMover) (asNumber (leads state kind)) 0

@@ -8,13 +8,13 @@ use sheet_order::Piece;
 use sheet_order::Pieces;
 use steps::Team;
 
-pub(crate) const TAKE: i32 = 1;
+pub(crate) const TAKE: i32 = Request::OWN as i32;
 
-pub(crate) const CLAIM: i32 = 2;
+pub(crate) const CLAIM: i32 = Request::ADVANCE as i32;
 
-pub(crate) const MARK: i32 = 3;
+pub(crate) const MARK: i32 = Request::MARK as i32;
 
-pub(crate) const SPLIT: i32 = 4;
+pub(crate) const SPLIT: i32 = Request::EXPAND as i32;
 
 pub(crate) struct Lesson {
     pub(crate) ledger: Ledger,
@@ -45,7 +45,7 @@ pub(crate) fn begin(start: i32, until: i32, teams: i32, nodes: i32) -> Lesson {
 
 // What was granted so far, with what this answer grants: an advance that was granted is a batch.
 fn noted(granted: Pieces, team: u32, kind: u32, node: u32, a: Answer) -> Pieces {
-    if (kind == 2) & (a.code == 0) {
+    if (kind == Request::ADVANCE) & (a.code == 0) {
         return granted.with(Piece {
             team: team,
             node: node,
@@ -78,16 +78,7 @@ pub(crate) fn ask(
 ) -> Lesson {
     let l = s.ledger;
     let had = s.granted;
-    let done = ledger::request(
-        l,
-        Request {
-            kind: kind,
-            team: team,
-            node: node,
-            position: position,
-            amount: amount,
-        },
-    );
+    let done = ledger::request(l, Request::new(kind, team, node, position, amount));
     let next = done.ledger;
     let a = done.answer;
     on(

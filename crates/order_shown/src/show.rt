@@ -2,6 +2,7 @@
 use libc::STDOUT_FILENO;
 use rules::Answer;
 use rules::Ledger;
+use rules::Request;
 use sheet_order::Piece;
 use sheet_order::Pieces;
 
@@ -34,10 +35,10 @@ fn end() {
 
 fn verb(kind: u32) {
     match kind {
-        1 => words(b" takes"),
-        2 => words(b" claims from"),
-        3 => words(b" marks"),
-        4 => words(b" splits"),
+        Request::OWN => words(b" takes"),
+        Request::ADVANCE => words(b" claims from"),
+        Request::MARK => words(b" marks"),
+        Request::EXPAND => words(b" splits"),
         _ => words(b" looks at"),
     }
 }

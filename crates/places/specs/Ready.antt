@@ -17,10 +17,3 @@ pub record Ready (number : ℕ) (r : Team) (v : View) : Type 0 where
   pub until-high : v .node .until ≤ maxUntil
   pub left-high : v .node .left ≤ maxNode
   pub pair-high : v .pair ≤ maxNode
-
--- numbers that a signed field holds
-pub record Small (kind number node amount : ℕ) : Type 0 where
-  pub kind-high : kind ≤ maxUntil
-  pub number-high : number ≤ maxUntil
-  pub node-high : node ≤ maxUntil
-  pub amount-high : amount ≤ maxUntil

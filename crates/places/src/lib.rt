@@ -4,53 +4,30 @@ ghost use mathlib.Core.Bool.{cond};
 ghost use Prim.Native.Nat.{_≤_};
 ghost use lib.Dec.{eqb};
 ghost use Rattle.steps.specs.Records.{maxNode, claim, mark, isStopped};
-ghost use Rattle.steps.specs.Asks.{request};
+ghost use Rattle.numbers.specs.Progress.{signed};
+ghost use Rattle.rules.specs.Asks.{request};
 ghost use Rattle.steps.specs.Places.{stealable, again, onward, takeChild, grownSize, sightMoves, seekMoves, takeMoves, workMoves, claimMoves, markMoves, splitMoves};
 ghost use Rattle.steps.specs.Turn.{asks, moves};
-ghost use Rattle.places.specs.Ready.{Limited, Small};
+ghost use Rattle.places.specs.Ready.{Limited};
 
 mod records;
 
 use rules::Answer;
+use rules::Node;
 use rules::Request;
 use steps::Place;
 use steps::Side;
 use steps::Team;
 
-// The kinds of requests.
-const OWN: u32 = 1;
-
-const ADVANCE: u32 = 2;
-
-const MARK: u32 = 3;
-
-const EXPAND: u32 = 4;
-
-const LOOK: u32 = 5;
-
-// The states of a node, as a look tells them.
-const AVAILABLE: u32 = 1;
-
-const OWNED: u32 = 2;
-
-const STOLEN: u32 = 4;
-
-const EXPANDED: u32 = 5;
-
+// A number past the largest signed one becomes the largest, and no team asks for such a one.
 fn request_of(kind: u32, number: u32, node: u32, position: i32, amount: u32) -> Request
-    ensures { λ q. ⌜ (Small kind number node amount → q ≡ request kind number node position amount) ⌝ }
+    ensures { λ q. ⌜ q ≡ request (signed kind) (signed number) (signed node) position (signed amount) ⌝ }
 {
     let k = numbers::to_signed(kind);
     let t = numbers::to_signed(number);
     let n = numbers::to_signed(node);
     let a = numbers::to_signed(amount);
-    Request {
-        kind: k,
-        team: t,
-        node: n,
-        position: position,
-        amount: a,
-    }
+    Request::new(k, t, n, position, a)
 }
 
 pub fn has_stopped(p: Place) -> bool
@@ -74,12 +51,12 @@ pub fn asks_of(number: u32, t: Team) -> Request
     let n = t.node;
     let place = t.place;
     match place {
-        Place::Seek => request_of(LOOK, number, n, 0, 0),
-        Place::Take => request_of(OWN, number, n, 0, 0),
-        Place::Work => request_of(LOOK, number, n, 0, 0),
-        Place::Claim => request_of(ADVANCE, number, n, t.position, t.size),
-        Place::Mark => request_of(MARK, number, n, t.position, 0),
-        Place::Split => request_of(EXPAND, number, n, 0, 0),
+        Place::Seek => request_of(Request::LOOK, number, n, 0, 0),
+        Place::Take => request_of(Request::OWN, number, n, 0, 0),
+        Place::Work => request_of(Request::LOOK, number, n, 0, 0),
+        Place::Claim => request_of(Request::ADVANCE, number, n, t.position, t.size),
+        Place::Mark => request_of(Request::MARK, number, n, t.position, 0),
+        Place::Split => request_of(Request::EXPAND, number, n, 0, 0),
         Place::Stopped => request_of(0, 0, 0, 0, 0),
     }
 }
@@ -87,7 +64,7 @@ pub fn asks_of(number: u32, t: Team) -> Request
 fn is_stealable(number: u32, a: Answer) -> bool
     ensures { λ r. ⌜ r ≡ stealable number a ⌝ }
 {
-    (a.state == OWNED) & !(a.owner == number)
+    (a.state == Node::OWNED) & !(a.owner == number)
 }
 
 // An OWNED node of another team is marked, and the team's own is passed.
@@ -108,9 +85,9 @@ fn sight_moves(number: u32, t: Team, a: Answer) -> Team
     let n = t.node;
     let state = a.state;
     match state {
-        AVAILABLE => records::take_at(t, n),
-        OWNED => owned_moves(number, t, a),
-        STOLEN => records::split_at(t, n, Side::Right),
+        Node::AVAILABLE => records::take_at(t, n),
+        Node::OWNED => owned_moves(number, t, a),
+        Node::STOLEN => records::split_at(t, n, Side::Right),
         _ => records::seek_at(t, records::next_of(n)),
     }
 }
@@ -154,9 +131,9 @@ fn work_moves(number: u32, t: Team, a: Answer) -> Team
     let n = t.node;
     let state = a.state;
     match state {
-        OWNED => held_moves(number, t, a),
-        STOLEN => records::split_at(t, n, Side::Left),
-        EXPANDED => records::take_at(t, a.left),
+        Node::OWNED => held_moves(number, t, a),
+        Node::STOLEN => records::split_at(t, n, Side::Left),
+        Node::EXPANDED => records::take_at(t, a.left),
         _ => records::seek_at(t, 1),
     }
 }

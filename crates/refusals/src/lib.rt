@@ -1,6 +1,7 @@
 // The refusals: each request's tests in the order of document 01's table. The last test is written first, since each line gives what the later ones leave.
 ghost use mathlib.Core.Path.{_≡_};
 ghost use Rattle.numbers.specs.Fields.{within, isNat, sameNumber};
+ghost use Rattle.rules.specs.Asks.{lastKind};
 ghost use Rattle.rules.specs.Limits.{maxAmount};
 ghost use Rattle.rules.specs.Refusals.{noRoom, ownCode, advanceCode, markCode, expandCode, kindCode, refusal};
 use rules::Node;
@@ -8,9 +9,9 @@ use rules::Request;
 use rules::View;
 
 fn good_kind(r: Request) -> bool
-    ensures { λ b. ⌜ b ≡ within (r .kind) 1 5 ⌝ }
+    ensures { λ b. ⌜ b ≡ within (r .kind) 1 lastKind ⌝ }
 {
-    numbers::in_range(r.kind, 1, 5)
+    numbers::in_range(r.kind, 1, Request::LAST)
 }
 
 fn good_team(r: Request, teams: u32) -> bool
@@ -92,10 +93,10 @@ fn kind_code(v: View, r: Request) -> u32
     let x = v.node;
     let k = numbers::natural(r.kind);
     match k {
-        1 => own_code(x),
-        2 => advance_code(x, r),
-        3 => mark_code(v, r),
-        4 => expand_code(x),
+        Request::OWN => own_code(x),
+        Request::ADVANCE => advance_code(x, r),
+        Request::MARK => mark_code(v, r),
+        Request::EXPAND => expand_code(x),
         _ => 0,
     }
 }

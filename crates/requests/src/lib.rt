@@ -167,10 +167,10 @@ fn granted_by(v: View, r: Request) -> Outcome
 {
     let k = numbers::natural(r.kind);
     match k {
-        1 => own_outcome(v, r),
-        2 => advance_outcome(v, r),
-        3 => mark_outcome(v, r),
-        4 => expand_outcome(v),
+        Request::OWN => own_outcome(v, r),
+        Request::ADVANCE => advance_outcome(v, r),
+        Request::MARK => mark_outcome(v, r),
+        Request::EXPAND => expand_outcome(v),
         _ => look_outcome(v),
     }
 }

@@ -9,6 +9,7 @@ use Rattle.rules.specs.declared.Request.{Request}
 use Rattle.rules.specs.declared.View.{View}
 use Rattle.rules.specs.declared.Change.{Change}
 use Rattle.rules.specs.declared.Change.the-variants.{Keep, Store, Split}
+use Rattle.rules.specs.Asks.{EXPAND}
 use Rattle.rules.specs.Nodes.{parted, leftPart, rightPart}
 use Rattle.rules.specs.Refusals.{kindCode, refusal}
 use Rattle.rules.specs.Requests.{owning, advancing, marking, expanding, looking, granted, decided, view, nodeIn}
@@ -37,7 +38,7 @@ module _ (l : Ledger) (q : Request) where
       used : InUse l n
       used = let f = asked-facts v q e .0 .node in unfold view in (record { low = f .low; high = f .high })
 
-      was : natOf (q .kind) ≡ 4 → Stolen (at l n)
+      was : natOf (q .kind) ≡ EXPAND → Stolen (at l n)
       was k = unfold kindCode view in (expand-facts (at l n) (rw k at (asked-facts v q e .1)))
 
       go : Kind (natOf (q .kind)) → Changes l n (granted v q .change)

@@ -18,6 +18,7 @@ use Rattle.rules.specs.declared.Request.{Request}
 use Rattle.rules.specs.declared.Answered.{Answered}
 use Rattle.rules.specs.declared.View.{View}
 use Rattle.rules.specs.declared.Change.the-variants.{Keep}
+use Rattle.rules.specs.Asks.{OWN, ADVANCE, MARK, EXPAND, LOOK, lastKind}
 use Rattle.rules.specs.Limits.{maxAmount}
 use Rattle.rules.specs.Nodes.{owned, moved, parted, marked, unowned, childless, positionOf, middle, leftPart, rightPart}
 use Rattle.rules.specs.States.{completed}
@@ -33,7 +34,7 @@ use Rattle.rules.proofs.States.{Stolen}
 
 -- a request of any kind that passes the tests of all
 pub record Asked (teams used : ℕ) (r : Request) : Type 0 where
-  pub kind : Within (r .kind) 1 5
+  pub kind : Within (r .kind) 1 lastKind
   pub team : Within (r .team) 1 teams
   pub node : Within (r .node) 1 used
 
@@ -75,29 +76,29 @@ after l n x c a b = grown (put (put (put l n x) c a) (c + 1) b) c
 pub data Answers (l : Ledger) (r : Request) : Answered → Type 0 where
   refuses : refusal (view l (nodeIn r)) r ≢ 0
       → Answers l r (record { ledger = l; answer = refusing (view l (nodeIn r)) (refusal (view l (nodeIn r)) r) })
-  owns : natOf (r .kind) ≡ 1 → Asked (l .teams) (l .used) r → Owning (at l (nodeIn r))
+  owns : natOf (r .kind) ≡ OWN → Asked (l .teams) (l .used) r → Owning (at l (nodeIn r))
       → Answers l r (record {
         ledger = put l (nodeIn r) (owned (at l (nodeIn r)) (natOf (r .team)));
         answer = ranged (at l (nodeIn r) .start) (at l (nodeIn r) .until);
       })
-  advances : natOf (r .kind) ≡ 2 → Asked (l .teams) (l .used) r → Advancing (at l (nodeIn r)) r
+  advances : natOf (r .kind) ≡ ADVANCE → Asked (l .teams) (l .used) r → Advancing (at l (nodeIn r)) r
       → Answers l r (record {
         ledger = put l (nodeIn r) (moved (at l (nodeIn r)) (pos (batchEnd (at l (nodeIn r)) r)));
         answer = ranged (positionOf (at l (nodeIn r))) (batchEnd (at l (nodeIn r)) r);
       })
-  marks : natOf (r .kind) ≡ 3 → Asked (l .teams) (l .used) r
+  marks : natOf (r .kind) ≡ MARK → Asked (l .teams) (l .used) r
       → Marking (at l (nodeIn r)) r (l .used + 2 * stolenIn l) (l .room)
       → Answers l r (record {
         ledger = put l (nodeIn r) (moved (at l (nodeIn r)) (negsuc (positionOf (at l (nodeIn r)))));
         answer = ranged (positionOf (at l (nodeIn r))) (at l (nodeIn r) .until);
       })
-  expands : natOf (r .kind) ≡ 4 → Asked (l .teams) (l .used) r → Stolen (at l (nodeIn r))
+  expands : natOf (r .kind) ≡ EXPAND → Asked (l .teams) (l .used) r → Stolen (at l (nodeIn r))
       → Answers l r (record {
         ledger =
             after l (nodeIn r) (parted (at l (nodeIn r)) (nextPair l)) (nextPair l) (leftPart (at l (nodeIn r))) (rightPart (at l (nodeIn r)));
         answer = split (nextPair l) (middle (at l (nodeIn r)));
       })
-  looks : natOf (r .kind) ≡ 5 → Asked (l .teams) (l .used) r
+  looks : natOf (r .kind) ≡ LOOK → Asked (l .teams) (l .used) r
       → Answers l r (record { ledger = l; answer = seen (at l (nodeIn r)) })
 
 -- ---- reading the lists of tests back
@@ -172,7 +173,7 @@ asked-to k v r other e =
     let p = passed-to k (allTests v r) (kindCode v r) other e in
     let t = p .0 in (
       record {
-        kind = within-true (r .kind) 1 5 (not-false (within (r .kind) 1 5) (t .0));
+        kind = within-true (r .kind) 1 lastKind (not-false (within (r .kind) 1 lastKind) (t .0));
         team = within-true (r .team) 1 (v .teams) (not-false (within (r .team) 1 (v .teams)) (t .1 .0));
         node = within-true (r .node) 1 (v .used) (not-false (within (r .node) 1 (v .used)) (t .1 .1 .0));
       },
@@ -235,38 +236,38 @@ module _ (l : Ledger) (r : Request) where
     code : kindCode v r ≡ 0
     code = asked-facts v r clear .1
 
-    given-own : natOf (r .kind) ≡ 1 → Answers l r given
+    given-own : natOf (r .kind) ≡ OWN → Answers l r given
     unfolding given granted changed owning view
     given-own e = let f = own-facts x (unfold kindCode in (rw e at code)) in rw e (owns e asked f)
 
     -- a batch from the position that stands
-    advances-from : (p : ℕ) → p ≡ positionOf x → natOf (r .kind) ≡ 2 → Advancing x r
+    advances-from : (p : ℕ) → p ≡ positionOf x → natOf (r .kind) ≡ ADVANCE → Advancing x r
         → Answers l r (record { ledger = put l n (moved x (pos (batchEnd x r))); answer = ranged p (batchEnd x r) })
     advances-from p is e f = rw is (advances e asked f)
 
-    given-advance : natOf (r .kind) ≡ 2 → Answers l r given
+    given-advance : natOf (r .kind) ≡ ADVANCE → Answers l r given
     unfolding given granted changed advancing view
     given-advance e =
         let f = advance-facts x r (unfold kindCode in (rw e at code)) in
         rw e (advances-from _ (f .here .position-is) e f)
 
     -- a progress that is the position's mark
-    marks-as : (p : ℤ) → p ≡ negsuc (positionOf x) → natOf (r .kind) ≡ 3
+    marks-as : (p : ℤ) → p ≡ negsuc (positionOf x) → natOf (r .kind) ≡ MARK
         → Marking x r (l .used + 2 * stolenIn l) (l .room)
         → Answers l r (record { ledger = put l n (moved x p); answer = ranged (positionOf x) (x .until) })
     marks-as p is e f = rw is (marks e asked f)
 
-    given-mark : natOf (r .kind) ≡ 3 → Answers l r given
+    given-mark : natOf (r .kind) ≡ MARK → Answers l r given
     unfolding given granted changed marking view
     given-mark e =
         let f = mark-facts v r (asked .team .is) (unfold kindCode in (rw e at code)) in
         rw (e, f .here .position-is) (marks-as _ (f .here .mark-is) e f)
 
-    given-expand : natOf (r .kind) ≡ 4 → Answers l r given
+    given-expand : natOf (r .kind) ≡ EXPAND → Answers l r given
     unfolding given granted changed expanding view
     given-expand e = let f = expand-facts (v .node) (unfold kindCode in (rw e at code)) in rw e (expands e asked f)
 
-    given-look : natOf (r .kind) ≡ 5 → Answers l r given
+    given-look : natOf (r .kind) ≡ LOOK → Answers l r given
     unfolding given granted changed looking view
     given-look e = rw e (looks e asked)
 

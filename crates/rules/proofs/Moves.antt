@@ -12,7 +12,8 @@ use Rattle.rules.specs.declared.Node.{Node}
 use Rattle.rules.specs.declared.Ledger.{Ledger}
 use Rattle.rules.specs.declared.Request.{Request}
 use Rattle.rules.specs.declared.Answered.{Answered}
-use Rattle.rules.specs.Moves.{leads, isIn}
+use Rattle.rules.specs.Asks.{OWN, ADVANCE, MARK, EXPAND}
+use Rattle.rules.specs.Moves.{entryIn, leads, isIn}
 use Rattle.rules.specs.Nodes.{owned, moved, parted, marked, positionOf}
 use Rattle.rules.specs.Requests.{batchEnd, nodeIn}
 use Rattle.rules.specs.States.{AVAILABLE, OWNED, COMPLETED, STOLEN, EXPANDED, completed, stateOf}
@@ -39,15 +40,15 @@ module _ (l : Ledger) (w : WF l) (r : Request) (asked : Asked (l .teams) (l .use
   abbrev x : Node
   x = at l n
 
-  own-leads : Owning x → Leads x 1 (owned x (natOf (r .team)))
-  unfolding leads isIn
+  own-leads : Owning x → Leads x OWN (owned x (natOf (r .team)))
+  unfolding leads entryIn isIn
   own-leads o =
       let plain = ap negative (w .alone n (in-use l r asked) .unowned (o .nobody)) in
       let y = owned x (natOf (r .team)) in
       leads-by
       x
       y
-      1
+      OWN
       AVAILABLE
       OWNED
       (available-is x (record { going = o .going; plain = plain; nobody = o .nobody }))
@@ -58,7 +59,7 @@ module _ (l : Ledger) (w : WF l) (r : Request) (asked : Asked (l .teams) (l .use
   was-owned p g s = owned-is x (record { going = g; plain = p; somebody = s })
 
   -- on to the end, or not yet
-  advance-leads : Advancing x r → Leads x 2 (moved x (pos (batchEnd x r)))
+  advance-leads : Advancing x r → Leads x ADVANCE (moved x (pos (batchEnd x r)))
   advance-leads a = go (completed y) refl
     where
       y : Node
@@ -70,34 +71,34 @@ module _ (l : Ledger) (w : WF l) (r : Request) (asked : Asked (l .teams) (l .use
       was : stateOf x ≡ OWNED
       was = was-owned (a .here .plain) (a .here .going) some
 
-      go : (b : Bool) → completed y ≡ b → Leads x 2 y
-      go true e = unfold leads isIn in (leads-by x y 2 OWNED COMPLETED was (completed-is y e) refl)
+      go : (b : Bool) → completed y ≡ b → Leads x ADVANCE y
+      go true e = unfold leads entryIn isIn in (leads-by x y ADVANCE OWNED COMPLETED was (completed-is y e) refl)
       go false e =
-          unfold leads isIn in
-          (leads-by x y 2 OWNED OWNED was (owned-is y (record { going = e; plain = refl; somebody = some })) refl)
+          unfold leads entryIn isIn in
+          (leads-by x y ADVANCE OWNED OWNED was (owned-is y (record { going = e; plain = refl; somebody = some })) refl)
 
-  mark-leads : Marking x r (l .used + 2 * stolenIn l) (l .room) → Leads x 3 (moved x (negsuc (positionOf x)))
-  unfolding leads isIn
+  mark-leads : Marking x r (l .used + 2 * stolenIn l) (l .room) → Leads x MARK (moved x (negsuc (positionOf x)))
+  unfolding leads entryIn isIn
   mark-leads m =
       let y = moved x (negsuc (positionOf x)) in
       leads-by
       x
       y
-      3
+      MARK
       OWNED
       STOLEN
       (was-owned (m .here .plain) (m .here .going) (m .somebody))
       (stolen-is y (record { mark = refl; leaf = no-children l w n (in-use l r asked) (m .here .plain) }))
       refl
 
-  expand-leads : Stolen x → Leads x 4 (parted x (nextPair l))
-  unfolding leads isIn
+  expand-leads : Stolen x → Leads x EXPAND (parted x (nextPair l))
+  unfolding leads entryIn isIn
   expand-leads e =
       let y = parted x (nextPair l) in
       leads-by
       x
       y
-      4
+      EXPAND
       STOLEN
       EXPANDED
       (stolen-is x (record { mark = e .mark; leaf = e .leaf }))
@@ -112,11 +113,11 @@ module _ (l : Ledger) (w : WF l) (r : Request) (asked : Asked (l .teams) (l .use
 pub moves : {l : Ledger} {r : Request} {a : Answered} → WF l → Answers l r a
     → (a .ledger ≡ l) ⊎ Leads (at l (nodeIn r)) (natOf (r .kind)) (at (a .ledger) (nodeIn r))
 moves w (refuses h) = inl refl
-moves {l} {r} w (owns k q f) = inr (stored l w r q (owned (at l (nodeIn r)) (natOf (r .team))) 1 k (own-leads l w r q f))
+moves {l} {r} w (owns k q f) = inr (stored l w r q (owned (at l (nodeIn r)) (natOf (r .team))) OWN k (own-leads l w r q f))
 moves {l} {r} w (advances k q f) =
-    inr (stored l w r q (moved (at l (nodeIn r)) (pos (batchEnd (at l (nodeIn r)) r))) 2 k (advance-leads l w r q f))
+    inr (stored l w r q (moved (at l (nodeIn r)) (pos (batchEnd (at l (nodeIn r)) r))) ADVANCE k (advance-leads l w r q f))
 moves {l} {r} w (marks k q f) =
-    inr (stored l w r q (moved (at l (nodeIn r)) (negsuc (positionOf (at l (nodeIn r))))) 3 k (mark-leads l w r q f))
+    inr (stored l w r q (moved (at l (nodeIn r)) (negsuc (positionOf (at l (nodeIn r))))) MARK k (mark-leads l w r q f))
 moves {l} {r} w (expands k q f) =
     inr
     (rw

@@ -7,6 +7,7 @@ use Prim.Native.Nat.{ℕ, zero, suc, _≤_}
 use native.Mathlib.Omega.{arith}
 use lib.Dec.{T, eqb}
 use borrow.Author.Tests.{eq-eqb}
+use Rattle.rules.specs.Asks.{OWN, ADVANCE, MARK, EXPAND, LOOK, lastKind}
 use Rattle.rules.specs.Tests.{Test, first}
 
 -- no test of the list holds
@@ -45,13 +46,13 @@ pub passed : (ts : List Test) (after : ℕ) → T (lacks 0 ts) → first ts afte
 passed = passed-to 0
 
 pub data Kind (k : ℕ) : Type 0 where
-  own : k ≡ 1 → Kind k
-  advance : k ≡ 2 → Kind k
-  mark : k ≡ 3 → Kind k
-  expand : k ≡ 4 → Kind k
-  look : k ≡ 5 → Kind k
+  own : k ≡ OWN → Kind k
+  advance : k ≡ ADVANCE → Kind k
+  mark : k ≡ MARK → Kind k
+  expand : k ≡ EXPAND → Kind k
+  look : k ≡ LOOK → Kind k
 
-pub kind-of : (k : ℕ) → 1 ≤ k → k ≤ 5 → Kind k
+pub kind-of : (k : ℕ) → 1 ≤ k → k ≤ lastKind → Kind k
 kind-of zero a b = absurd (omega arith)
 kind-of (suc zero) a b = own refl
 kind-of (suc (suc zero)) a b = advance refl

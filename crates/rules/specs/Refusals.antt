@@ -8,7 +8,7 @@ use Rattle.rules.specs.declared.Node.{Node}
 use Rattle.rules.specs.declared.Request.{Request}
 use Rattle.rules.specs.declared.View.{View}
 use Rattle.rules.specs.Limits.{maxAmount}
-use Rattle.rules.specs.Moves.{byKind}
+use Rattle.rules.specs.Asks.{byKind, lastKind}
 use Rattle.rules.specs.Nodes.{marked, unowned, childless}
 use Rattle.rules.specs.States.{completed}
 use Rattle.rules.specs.Tests.{Test, _when_, first}
@@ -16,7 +16,7 @@ use Rattle.rules.specs.Tests.{Test, _when_, first}
 -- all: second, third, fourth
 abbrev pub allTests : View → Request → List Test
 allTests v r =
-    (2 when not (within (r .kind) 1 5))
+    (2 when not (within (r .kind) 1 lastKind))
     ∷ (3 when not (within (r .team) 1 (v .teams)))
     ∷ (4 when not (within (r .node) 1 (v .used)))
     ∷ []

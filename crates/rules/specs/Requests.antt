@@ -14,7 +14,7 @@ use Rattle.rules.specs.declared.View.{View}
 use Rattle.rules.specs.declared.Change.{Change}
 use Rattle.rules.specs.declared.Change.the-variants.{Keep, Store, Split}
 use Rattle.rules.specs.declared.Outcome.{Outcome}
-use Rattle.rules.specs.Moves.{byKind}
+use Rattle.rules.specs.Asks.{byKind}
 use Rattle.rules.specs.Nodes.{owned, moved, parted, positionOf, middle, leftPart, rightPart}
 use Rattle.rules.specs.States.{stateOf}
 use Rattle.rules.specs.Table.{at, put, nextPair, grown, stolenIn}

@@ -1,5 +1,6 @@
 // The ledger's types and their limits. Document 01's rules over them are the definitions of specs/; its demands are theorems of this crate.
 ghost use mathlib.Core.Path.{_≡_};
+ghost use Rattle.rules.specs.Asks.{request};
 ghost use Rattle.rules.specs.Limits.{opens};
 
 // The five numbers that an opening takes. `cap`, the largest step, belongs to the run; `nodes` is the table room.
@@ -115,7 +116,45 @@ impl Opening {
     }
 }
 
+impl Node {
+    // The states of a node.
+    pub const AVAILABLE: u32 = 1;
+
+    pub const OWNED: u32 = 2;
+
+    pub const COMPLETED: u32 = 3;
+
+    pub const STOLEN: u32 = 4;
+
+    pub const EXPANDED: u32 = 5;
+}
+
 impl Request {
+    // The kinds of requests, and the last of them.
+    pub const OWN: u32 = 1;
+
+    pub const ADVANCE: u32 = 2;
+
+    pub const MARK: u32 = 3;
+
+    pub const EXPAND: u32 = 4;
+
+    pub const LOOK: u32 = 5;
+
+    pub const LAST: u32 = Request::LOOK;
     // The largest amount of one advance.
     pub const AMOUNT: u32 = 4096;
+
+    // The one maker of requests.
+    pub fn new(kind: i32, team: i32, node: i32, position: i32, amount: i32) -> Request
+        ensures { λ r. ⌜ r ≡ request kind team node position amount ⌝ }
+    {
+        Request {
+            kind: kind,
+            team: team,
+            node: node,
+            position: position,
+            amount: amount,
+        }
+    }
 }

@@ -13,6 +13,7 @@ use Rattle.numbers.proofs.Laws.{within-made}
 use Rattle.rules.specs.declared.Ledger.{Ledger}
 use Rattle.rules.specs.declared.Request.{Request}
 use Rattle.rules.specs.declared.Answered.{Answered}
+use Rattle.rules.specs.Asks.{own, advance, mark, expand, look, lastKind}
 use Rattle.rules.specs.Limits.{maxAmount}
 use Rattle.rules.specs.Nodes.{owned, moved, parted, marked, positionOf, middle, leftPart, rightPart}
 use Rattle.rules.specs.States.{AVAILABLE, STOLEN, EXPANDED, completed, stateOf}
@@ -23,7 +24,6 @@ use Rattle.rules.proofs.Granted.{in-use, Advancing, Marking, after, Answers, re
 use Rattle.rules.proofs.Keeps.{requested-wf}
 use Rattle.rules.proofs.Record.{WF}
 use Rattle.rules.proofs.States.{Available, Stolen, is-available, is-stolen, is-expanded}
-use Rattle.steps.specs.Asks.{own, advance, mark, expand, look}
 
 -- the node is in use, and it has children
 pub record Parent (l : Ledger) (n : ℕ) : Type 0 where
@@ -32,7 +32,7 @@ pub record Parent (l : Ledger) (n : ℕ) : Type 0 where
 
 -- ---- any request of a team
 
-module _ (l : Ledger) (q : Request) (kind : within (q .kind) 1 5 ≡ true) (team : within (q .team) 1 (l .teams) ≡ true) where
+module _ (l : Ledger) (q : Request) (kind : within (q .kind) 1 lastKind ≡ true) (team : within (q .team) 1 (l .teams) ≡ true) where
   by-kind : within (q .node) 1 (l .used) ≡ true → refusal (view l (nodeIn q)) q ≡ kindCode (view l (nodeIn q)) q
   unfolding refusal view
   by-kind e = rw (kind, team, e)

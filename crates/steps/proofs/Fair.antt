@@ -12,6 +12,7 @@ use Rattle.rules.specs.declared.Ledger.{Ledger}
 use Rattle.rules.specs.declared.Request.{Request}
 use Rattle.rules.specs.declared.Answer.{Answer}
 use Rattle.rules.specs.declared.Answered.{Answered}
+use Rattle.rules.specs.Asks.{own, advance, mark, expand, look}
 use Rattle.rules.specs.Nodes.{owned, moved, parted, marked, positionOf, leftPart, rightPart}
 use Rattle.rules.specs.States.{AVAILABLE, OWNED, STOLEN, stateOf}
 use Rattle.rules.specs.Table.{InUse, at, put, nextPair}
@@ -23,7 +24,6 @@ use Rattle.rules.proofs.States.{never, is-owned, is-expanded, owned-is, stolen-
 use Rattle.steps.specs.declared.Side.{Side}
 use Rattle.steps.specs.declared.Side.the-variants.{Left, Right}
 use Rattle.steps.specs.declared.Team.{Team}
-use Rattle.steps.specs.Asks.{own, advance, mark, expand, look}
 use Rattle.steps.specs.Records.{sized, split, work, childOn}
 use Rattle.steps.specs.Places.{again, grownSize, takeMoves, workMoves, claimMoves, splitMoves}
 use Rattle.steps.proofs.Stages.{Stage, hunt, taking, busy, parting, stageOf, child, Heads, works, parts, takes, Open, unmade, untaken, All, Moved, Duty, duty-same, duty-hunt, duty-taking, duty-busy, duty-parting}

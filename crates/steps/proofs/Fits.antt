@@ -12,6 +12,7 @@ use Rattle.rules.specs.declared.Answer.{Answer}
 use Rattle.rules.specs.declared.Answered.{Answered}
 use Rattle.rules.specs.declared.Change.{Change}
 use Rattle.rules.specs.declared.Change.the-variants as change
+use Rattle.rules.specs.Asks.{mark, expand, look}
 use Rattle.rules.specs.Requests.{refusing, seen, changed, decided, view, nodeIn, answered, requested}
 use Rattle.rules.specs.States.{AVAILABLE, STOLEN, EXPANDED, stateOf}
 use Rattle.rules.specs.Table.{InUse, at, put, nextPair, grown}
@@ -24,7 +25,6 @@ use Rattle.steps.specs.declared.Place.the-variants.{Seek, Take, Work, Cl
 use Rattle.steps.specs.declared.Side.{Side}
 use Rattle.steps.specs.declared.Side.the-variants.{Left, Right}
 use Rattle.steps.specs.declared.Team.{Team}
-use Rattle.steps.specs.Asks.{mark, expand, look}
 use Rattle.steps.specs.Records.{childOn, sized, take, work}
 use Rattle.steps.specs.Places.{Search, scan, searchOf, again, onward, mine, stealable, takeMoves, workMoves, claimMoves, splitMoves, seekMoves, markMoves}
 use Rattle.steps.specs.Step.{stepFrom}

@@ -5,6 +5,7 @@ use Prim.Native.Nat.{ℕ, _≤_}
 use Rattle.rules.specs.declared.Ledger.{Ledger}
 use Rattle.rules.specs.declared.Answer.{Answer}
 use Rattle.rules.specs.declared.Answered.{Answered}
+use Rattle.rules.specs.Asks.{look}
 use Rattle.rules.specs.States.{AVAILABLE, stateOf}
 use Rattle.rules.specs.Table.{InUse, at}
 use Rattle.rules.specs.Requests.{requested}
@@ -12,7 +13,6 @@ use Rattle.rules.proofs.Record.{WF, root-used}
 use Rattle.steps.specs.declared.Place.the-variants.{Seek, Take}
 use Rattle.steps.specs.declared.Side.the-variants.{Right}
 use Rattle.steps.specs.declared.Team.{Team}
-use Rattle.steps.specs.Asks.{look}
 use Rattle.steps.specs.Records.{freshTeam}
 use Rattle.steps.specs.Places.{Search, scan, searchOf, seekMoves, markMoves}
 use Rattle.steps.proofs.Stages.{parting, stageOf}

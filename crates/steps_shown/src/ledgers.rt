@@ -14,39 +14,40 @@ pub(crate) fn opened(nodes: i32) -> Ledger {
     o.ledger
 }
 
-fn after(l: Ledger, kind: i32, team: i32, node: i32, position: i32, amount: i32) -> Ledger {
-    let r = Request {
-        kind: kind,
-        team: team,
-        node: node,
-        position: position,
-        amount: amount,
-    };
+fn after(l: Ledger, kind: u32, team: i32, node: i32, position: i32, amount: i32) -> Ledger {
+    let r = Request::new(kind as i32, team, node, position, amount);
     let x = ledger::request(l, r);
     x.ledger
 }
 
 // Team 1 owns the root.
 pub(crate) fn owned(nodes: i32) -> Ledger {
-    after(opened(nodes), 1, 1, 1, 0, 0)
+    after(opened(nodes), Request::OWN, 1, 1, 0, 0)
 }
 
 // And has claimed this many of its sheets.
 pub(crate) fn claimed(nodes: i32, sheets: i32) -> Ledger {
-    after(owned(nodes), 2, 1, 1, 0, sheets)
+    after(owned(nodes), Request::ADVANCE, 1, 1, 0, sheets)
 }
 
 // Team 2 has marked it at 2.
 pub(crate) fn stolen() -> Ledger {
-    after(claimed(7, 2), 3, 2, 1, 2, 0)
+    after(claimed(7, 2), Request::MARK, 2, 1, 2, 0)
 }
 
 // Team 2 has marked it at its last sheet, and split it in 7..7 and 7..8.
 pub(crate) fn last_split() -> Ledger {
-    after(after(claimed(7, 7), 3, 2, 1, 7, 0), 4, 2, 1, 0, 0)
+    after(
+        after(claimed(7, 7), Request::MARK, 2, 1, 7, 0),
+        Request::EXPAND,
+        2,
+        1,
+        0,
+        0,
+    )
 }
 
 // The one marked at 2 is split in 2..5 and 5..8.
 pub(crate) fn expanded() -> Ledger {
-    after(stolen(), 4, 2, 1, 0, 0)
+    after(stolen(), Request::EXPAND, 2, 1, 0, 0)
 }

@@ -15,6 +15,7 @@ use Rattle.rules.specs.declared.Answered.{Answered}
 use Rattle.rules.specs.declared.View.{View}
 use Rattle.rules.specs.declared.Outcome.{Outcome}
 use Rattle.rules.specs.declared.Change.the-variants.{Keep}
+use Rattle.rules.specs.Asks.{OWN, ADVANCE, MARK, EXPAND}
 use Rattle.rules.specs.Limits.{maxCap}
 use Rattle.rules.specs.Refusals.{refusal}
 use Rattle.rules.specs.Requests.{refusing, outcome, owning, advancing, marking, expanding, looking, granted, decided, view, nodeIn, answered, requested}
@@ -48,7 +49,7 @@ left-small v q k node pair = refused-or (eqb (refusal v q) 0)
 
     refused-or : (b : Bool) → cond b (granted v q) (outcome (refusing v (refusal v q)) Keep) .answer .left ≤ k
     refused-or true =
-        unfold granted in (of-kind (eqb (natOf (q .kind)) 1) (eqb (natOf (q .kind)) 2) (eqb (natOf (q .kind)) 3) (eqb (natOf (q .kind)) 4))
+        unfold granted in (of-kind (eqb (natOf (q .kind)) OWN) (eqb (natOf (q .kind)) ADVANCE) (eqb (natOf (q .kind)) MARK) (eqb (natOf (q .kind)) EXPAND))
     refused-or false = late (eqb (refusal v q) 16)
       where
         late : (b : Bool) → cond b (v .node .left) 0 ≤ k

@@ -7,7 +7,7 @@ use native.Mathlib.Omega.{arith}
 use lib.Dec.{eqb}
 use lib.ListN.{getD}
 use borrow.Author.Tests.{eqb-true}
-use Rattle.rules.specs.Moves.{leads, asNumber}
+use Rattle.rules.specs.Moves.{entryIn, leads, asNumber}
 use Rattle.rules.proofs.Facts.{facts}
 use Rattle.nodes.specs.MoveTable.{movesOf}
 use Rattle.nodes.proofs.Entries.{allEntries, entry}
@@ -22,7 +22,7 @@ right : ℕ → ℕ → Bool
 right k x = eqb x (asNumber (leads (k / 5 + 1) (k % 5 + 1)))
 
 checked : allEntries right 0 table ≡ true
-unfolding right table leads asNumber
+unfolding right table leads entryIn asNumber
 checked = refl
 
 ruled : (s k : ℕ) → 1 ≤ s → s ≤ 5 → 1 ≤ k → k ≤ 5 → getD table (5 * (s - 1) + (k - 1)) 0 ≡ asNumber (leads s k)
