@@ -21,7 +21,7 @@ use Rattle.rules.proofs.Opens.{all-blank}
 use Rattle.rules.proofs.Record.{unused-t}
 
 -- every rule but that of the unused slots
-abbrev inUse : Ledger → Bool
+abbrev pub inUse : Ledger → Bool
 inUse l = numbersRule l && (rootRange l && upTo (nodeRule l) (l .used) && upTo (pairRule l) (l .used) && roomRule l)
 
 -- after the nodes in use there are k slots, all 0
@@ -31,7 +31,7 @@ unused l k n e h =
     let i : l .used + (n - 1 - l .used) ≡ n - 1 = omega arith in
     rw (← i, ← getD-drop (l .used) (l .nodes) (n - 1 - l .used) blank, e) (all-blank k (n - 1 - l .used))
 
-good : (l : Ledger) (k : ℕ) → drop (l .used) (l .nodes) ≡ replicate k blank → inUse l ≡ true → wellFormed l ≡ true
+pub good : (l : Ledger) (k : ℕ) → drop (l .used) (l .nodes) ≡ replicate k blank → inUse l ≡ true → wellFormed l ≡ true
 unfolding wellFormed
 good l k e t =
     let h = simp both at t in

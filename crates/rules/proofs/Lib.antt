@@ -21,5 +21,8 @@ pub mod Range
 pub mod Moves
 pub mod Examples
 pub mod Demands
+pub mod Happens
+pub mod Codes
+pub mod LateClaim
 pub mod Changed
 pub mod Counting

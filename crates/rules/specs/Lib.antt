@@ -13,3 +13,6 @@ pub mod Requests
 pub mod Count
 pub mod Examples
 pub mod Demands
+pub mod Happens
+pub mod Codes
+pub mod LateClaim

@@ -1,0 +1,65 @@
+-- The table of codes by example, by computation.
+use mathlib.Core.Path.{_≡_, refl}
+use mathlib.Core.Bool.{true, false}
+use mathlib.Core.List.{List, [], _∷_}
+use Prim.Native.Nat.{ℕ, _-_}
+use lib.ListN.{drop, replicate, length-replicate}
+use Rattle.rules.specs.declared.Ledger.{Ledger}
+use Rattle.rules.specs.Codes.{Reply, new, ofNew, empty, ofEmpty, held, ofHeld, done, ofDone, stolen, ofStolen, tight, ofTight, ofFull, Answering, broken, EachCode, RefusedOpening}
+use Rattle.rules.specs.Count.{counted}
+use Rattle.rules.specs.Examples.{full}
+use Rattle.rules.specs.Limits.{opens, maxNodes, slotsAfter}
+use Rattle.rules.specs.Nodes.{blank, middle}
+use Rattle.rules.specs.Opening.{closed, opening}
+use Rattle.rules.specs.Refusals.{ownCode, advanceCode, markCode, expandCode, kindCode, refusal}
+use Rattle.rules.specs.Requests.{owning, looking, granted, decided, view, answered, requested}
+use Rattle.rules.specs.States.{stateOf, stolenOf}
+use Rattle.rules.specs.Table.{at, sumBy, stolenIn}
+use Rattle.rules.specs.WellFormed.{upTo, aloneRule, childRule, nodeRule, leftIs, pairRule, wellFormed}
+use Rattle.rules.proofs.Examples.{inUse, good}
+use Rattle.rules.proofs.Opens.{all-blank}
+
+-- on a well-formed ledger the replies are those of the tests
+abbrev Replying : Ledger → List Reply → Type 0
+Replying l [] = Unit {0}
+Replying l (q ∷ qs) = (answered l (q .asked) .answer ≡ q .answer) × Replying l qs
+
+from-tests : (l : Ledger) (qs : List Reply) → wellFormed l ≡ true → Replying l qs → Answering l qs
+unfolding requested
+from-tests l [] w h = tt
+from-tests l (q ∷ qs) w h = (rw w (h .0), from-tests l qs w (h .1))
+
+replies : (l : Ledger) (k : ℕ) (qs : List Reply) → drop (l .used) (l .nodes) ≡ replicate k blank → inUse l ≡ true → Replying l qs → Answering l qs
+replies l k qs e t h = from-tests l qs (good l k e t) h
+
+pub each-code : EachCode
+unfolding opens middle stateOf stolenOf at sumBy stolenIn upTo aloneRule childRule nodeRule leftIs pairRule wellFormed ownCode advanceCode markCode expandCode kindCode refusal owning looking granted decided view answered requested counted
+each-code =
+    record {
+      of-broken = (refl, (refl, tt));
+      count-broken = refl;
+      of-new = replies new (slotsAfter 1) ofNew refl refl (refl, (refl, (refl, (refl, (refl, (refl, (refl, (refl, (refl, (refl, (refl, (refl, (refl, (refl, tt))))))))))))));
+      of-empty = replies empty (slotsAfter 1) ofEmpty refl refl (refl, (refl, tt));
+      of-held = replies held (slotsAfter 1) ofHeld refl refl (refl, (refl, (refl, (refl, (refl, (refl, (refl, (refl, (refl, tt)))))))));
+      of-done = replies done (slotsAfter 1) ofDone refl refl (refl, (refl, (refl, (refl, (refl, (refl, (refl, (refl, tt))))))));
+      of-stolen = replies stolen (slotsAfter 1) ofStolen refl refl (refl, (refl, (refl, (refl, (refl, (refl, (refl, (refl, tt))))))));
+      of-tight = replies tight (slotsAfter 1) ofTight refl refl (refl, (refl, tt));
+      of-full = replies full (slotsAfter 3) ofFull refl refl (refl, (refl, tt));
+    }
+
+pub refused-opening : RefusedOpening
+unfolding opening closed at
+refused-opening o e =
+    rw
+    e (
+      refl,
+      record {
+        start = refl;
+        until = refl;
+        teams = refl;
+        room = refl;
+        used = refl;
+        sized = length-replicate maxNodes blank;
+        nodes = λ n. all-blank maxNodes (n - 1);
+      },
+    )
