@@ -27,8 +27,7 @@ OpeningWellFormed = (o : Opening) → opening o .code ≡ 0 → wellFormed (open
 
 -- Every request, granted or refused, leaves a well-formed ledger well formed.
 abbrev pub RequestsKeepWellFormed : Type 0
-RequestsKeepWellFormed =
-    (l : Ledger) (r : Request) → Sound l → wellFormed (requested l r .ledger) ≡ true
+RequestsKeepWellFormed = (l : Ledger) (r : Request) → Sound l → wellFormed (requested l r .ledger) ≡ true
 
 -- A refusal changes nothing, and has only its code, but for 16, which has left and from too.
 abbrev pub RefusalsChangeNothing : Type 0
@@ -45,8 +44,7 @@ pub record Told (l : Ledger) (n : ℕ) (a : Answer) : Type 0 where
 -- A team second to a split is told by 16 where the children are.
 abbrev pub LateSplitterTold : Type 0
 LateSplitterTold =
-    (l : Ledger) (r : Request) → Sound l → requested l r .answer .code ≡ 16
-    → Told l (nodeIn r) (requested l r .answer)
+    (l : Ledger) (r : Request) → Sound l → requested l r .answer .code ≡ 16 → Told l (nodeIn r) (requested l r .answer)
 
 -- A pair to take: both its slots are within the room, and all 0.
 pub record HasPair (l : Ledger) : Type 0 where
@@ -56,15 +54,11 @@ pub record HasPair (l : Ledger) : Type 0 where
 
 -- A STOLEN node of a well-formed ledger has a pair to take, so a split needs no test for room.
 abbrev pub RoomForEverySplit : Type 0
-RoomForEverySplit =
-    (l : Ledger) (n : ℕ) → Sound l → InUse l n → stateOf (at l n) ≡ STOLEN
-    → HasPair l
+RoomForEverySplit = (l : Ledger) (n : ℕ) → Sound l → InUse l n → stateOf (at l n) ≡ STOLEN → HasPair l
 
 -- An OWNED node has a sheet left, so a team that seeks does not ask how many: it can steal the last one too.
 abbrev pub OwnedHasSome : Type 0
-OwnedHasSome =
-    (l : Ledger) (n : ℕ) → Sound l → InUse l n → stateOf (at l n) ≡ OWNED
-    → 1 ≤ leftOver (at l n)
+OwnedHasSome = (l : Ledger) (n : ℕ) → Sound l → InUse l n → stateOf (at l n) ≡ OWNED → 1 ≤ leftOver (at l n)
 
 -- The parts of a node with one sheet left: an empty left one, and a right one with the sheet.
 abbrev pub LastSheet : Type 0
@@ -97,8 +91,7 @@ pub record Moves (l : Ledger) (r : Request) (next : Ledger) : Type 0 where
 
 -- Every request on a well-formed ledger follows the rule of moves.
 abbrev pub RequestsFollowMoves : Type 0
-RequestsFollowMoves =
-    (l : Ledger) (r : Request) → Sound l → Moves l r (requested l r .ledger)
+RequestsFollowMoves = (l : Ledger) (r : Request) → Sound l → Moves l r (requested l r .ledger)
 
 -- The twelve examples are as the document has them.
 abbrev pub TwelveExamples : Type 0
