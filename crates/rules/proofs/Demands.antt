@@ -8,7 +8,7 @@ use Rattle.numbers.proofs.Laws.{isNat-made}
 use Rattle.rules.specs.declared.Ledger.{Ledger}
 use Rattle.rules.specs.declared.Request.{Request}
 use Rattle.rules.specs.declared.Answered.{Answered}
-use Rattle.rules.specs.Demands.{OpeningWellFormed, RequestsKeepWellFormed, RefusalsChangeNothing, Told, LateSplitterTold, RoomForEverySplit, OwnedHasSome, LastSheet, EmptyNeverOwned, Moves, RequestsFollowMoves}
+use Rattle.rules.specs.Demands.{OpeningWellFormed, RequestsKeepWellFormed, RefusalsChangeNothing, Told, LateSplitterTold, RoomForEverySplit, OwnedHasSome, StolenHasSome, LastSheet, EmptyNeverOwned, Moves, RequestsFollowMoves}
 use Rattle.rules.specs.Moves.{leads}
 use Rattle.rules.specs.Nodes.{fresh, positionOf, middle, leftPart, rightPart}
 use Rattle.rules.specs.Opening.{ledgerOf}
@@ -60,6 +60,9 @@ owned-has-some l n sound u s =
     let x = at l n in
     let o = is-owned x s in
     omega (arith, rules l sound .alone n u .high, not-yet (x .progress) (x .until) (o .plain) (o .going))
+
+pub stolen-has-some : StolenHasSome
+stolen-has-some l n sound u mark = omega (arith, rules l sound .alone n u .some-left mark)
 
 pub last-sheet : LastSheet
 unfolding leftPart rightPart middle

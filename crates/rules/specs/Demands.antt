@@ -14,7 +14,7 @@ use Rattle.rules.specs.Count.{unclaimed, counted}
 use Rattle.rules.specs.Examples.{examples, AllRight}
 use Rattle.rules.specs.Limits.{maxUntil}
 use Rattle.rules.specs.Moves.{leads, isIn}
-use Rattle.rules.specs.Nodes.{blank, fresh, positionOf, leftOver, leftPart, rightPart}
+use Rattle.rules.specs.Nodes.{blank, fresh, positionOf, leftOver, marked, leftPart, rightPart}
 use Rattle.rules.specs.Opening.{opening}
 use Rattle.rules.specs.Requests.{nodeIn, refusing, view, requested}
 use Rattle.rules.specs.States.{OWNED, COMPLETED, STOLEN, stateOf}
@@ -59,6 +59,10 @@ RoomForEverySplit = (l : Ledger) (n : ℕ) → Sound l → InUse l n → stateOf
 -- An OWNED node has a sheet left, so a team that seeks does not ask how many: it can steal the last one too.
 abbrev pub OwnedHasSome : Type 0
 OwnedHasSome = (l : Ledger) (n : ℕ) → Sound l → InUse l n → stateOf (at l n) ≡ OWNED → 1 ≤ leftOver (at l n)
+
+-- A negative node has one too: a steal takes something, and a split has something to share out.
+abbrev pub StolenHasSome : Type 0
+StolenHasSome = (l : Ledger) (n : ℕ) → Sound l → InUse l n → marked (at l n) ≡ true → 1 ≤ leftOver (at l n)
 
 -- The parts of a node with one sheet left: an empty left one, and a right one with the sheet.
 abbrev pub LastSheet : Type 0
