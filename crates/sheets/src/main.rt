@@ -1,8 +1,10 @@
 // `sheets`: a schedule as text from standard input, its listing to standard output. No contract can say what is read or written: the
-// listing is `listing::list`, and this program only moves its bytes. A read that fails counts as the end of the input, and a write that
-// fails ends the program.
+// listing is `listing::list`, and this program only moves its bytes. Where a read fails nothing is written; where a read or a write fails,
+// a line on standard error says so.
 ghost use mathlib.Core.Path.{_≡_};
+ghost use Prim.Native.Nat.{_≤_};
 ghost use lib.ListN.{length};
+ghost use Rattle.io.specs.Counts.{Counts};
 ghost use Rattle.text_rules.specs.Demands.{scheduleRoom};
 ghost use Rattle.listing_rules.specs.Demands.{listingRoom};
 use libc::STDIN_FILENO;
@@ -23,13 +25,103 @@ fn listing_area() -> [u8; 1310800]
     [0; 1310800]
 }
 
+// How many bytes are moved so far, whether another call is to be made, and whether the last one found that nothing is left to move.
+struct Moved {
+    count: usize,
+    goes_on: bool,
+    has_ended: bool,
+}
+
+fn nothing_moved() -> Moved
+    ensures { λ r. ⌜ r .count ≡ 0 ⌝ }
+{
+    Moved {
+        count: 0,
+        goes_on: true,
+        has_ended: false,
+    }
+}
+
+// What a call's answer says, where `count` bytes are moved with its own. A call that was interrupted is made again; after any other that
+// failed neither of the two holds.
+fn after(answer: isize, count: usize) -> Moved
+    ensures { λ r. ⌜ r .count ≡ count ⌝ }
+{
+    let is_interrupted = os::errno() == libc::EINTR;
+    Moved {
+        count: count,
+        goes_on: (answer > 0) | ((answer < 0) & is_interrupted),
+        has_ended: answer == 0,
+    }
+}
+
+fn read_on(area: &mut [u8], done: usize) -> Moved
+    requires { ⌜ done ≤ length (now area) ⌝ }
+    ensures { λ r. ⌜ r .count ≤ length (now (area .exit)) ⌝ }
+{
+    let answer = libc::read(STDIN_FILENO, &mut area[done..]);
+    after(answer, done + io::count(answer, &area[done..]))
+}
+
+fn write_on(bytes: &[u8], done: usize) -> Moved
+    requires { ⌜ done ≤ length (now bytes) ⌝ }
+    ensures { λ r. ⌜ r .count ≤ length (now (bytes .entry)) ⌝ }
+{
+    let answer = libc::write(STDOUT_FILENO, &bytes[done..]);
+    after(answer, done + io::count(answer, &bytes[done..]))
+}
+
+// Reads until the area is full, the input ends or a read fails. Nothing says that interruptions end, so the loop counts its turns down,
+// from a number that no run uses up.
+fn read_all(area: &mut [u8]) -> Moved
+    ensures { λ r. ⌜ Counts (r .count) (now (area .exit)) ⌝ }
+{
+    let mut m = nothing_moved();
+    let mut turns = u64::MAX;
+    while turns > 0 && m.goes_on {
+        turns -= 1;
+        let done = m.count;
+        m = read_on(area, done);
+    }
+    m
+}
+
+// Writes until all bytes are written or a write fails, and tells whether all are.
+fn write_all(bytes: &[u8]) -> bool {
+    let mut m = nothing_moved();
+    let mut turns = u64::MAX;
+    while turns > 0 && m.goes_on && m.count < bytes.len() {
+        turns -= 1;
+        let done = m.count;
+        m = write_on(bytes, done);
+    }
+    m.count == bytes.len()
+}
+
+// Lists the text in the areas that are lent, and writes the listing out.
+fn print_listing(text: &[u8], schedule: &mut [i32], out: &mut [u8]) {
+    let listed = listing::list(text, schedule, out);
+    let length = listed.length;
+    let is_written = write_all(&out[..length]);
+    if !is_written {
+        os::fail(b"sheets: writing");
+    }
+}
+
+fn play(text: &[u8]) {
+    let mut schedule = schedule_area();
+    let mut out = listing_area();
+    print_listing(text, &mut schedule, &mut out);
+}
+
 fn main() {
     // One byte more than a text may have, so that a longer one is seen.
     let mut text = io::large_buffer();
-    let n = io::read_full(STDIN_FILENO, &mut text);
-    let mut schedule = schedule_area();
-    let mut out = listing_area();
-    let listed = listing::list(&text[..n], &mut schedule, &mut out);
-    let length = listed.length;
-    io::write_all(STDOUT_FILENO, &out[..length]);
+    let input = read_all(&mut text);
+    if !input.has_ended {
+        os::fail(b"sheets: reading");
+        return;
+    }
+    let n = input.count;
+    play(&text[..n]);
 }
