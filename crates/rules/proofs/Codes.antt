@@ -1,11 +1,11 @@
 -- The table of codes by example, by computation.
 use mathlib.Core.Path.{_≡_, refl}
-use mathlib.Core.Bool.{true, false}
+use mathlib.Core.Bool.{true}
 use mathlib.Core.List.{List, [], _∷_}
 use Prim.Native.Nat.{ℕ, _-_}
 use lib.ListN.{drop, replicate, length-replicate}
 use Rattle.rules.specs.declared.Ledger.{Ledger}
-use Rattle.rules.specs.Codes.{Reply, new, ofNew, empty, ofEmpty, held, ofHeld, done, ofDone, stolen, ofStolen, tight, ofTight, ofFull, Answering, broken, EachCode, RefusedOpening}
+use Rattle.rules.specs.Codes.{Reply, new, ofNew, empty, ofEmpty, held, ofHeld, done, ofDone, stolen, ofStolen, tight, ofTight, ofFull, Answering, EachCode, RefusedOpening}
 use Rattle.rules.specs.Count.{counted}
 use Rattle.rules.specs.Examples.{full}
 use Rattle.rules.specs.Limits.{opens, maxNodes, slotsAfter}

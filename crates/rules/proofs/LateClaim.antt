@@ -4,7 +4,7 @@ use mathlib.Core.Logic.{_≢_}
 use mathlib.Core.Bool.{Bool, true, false}
 use Prim.Native.Nat.{ℕ}
 use lib.Dec.{eqb}
-use lib.IntN.{ℤ, pos}
+use lib.IntN.{ℤ}
 use Rattle.numbers.specs.Fields.{isNat, within, natOf, sameNumber}
 use Rattle.numbers.proofs.Laws.{isNat-made, same-true}
 use Rattle.rules.specs.declared.Ledger.{Ledger}
