@@ -11,6 +11,7 @@ use Rattle.rules.specs.declared.Request.{Request}
 use Rattle.laws.specs.Listed.{listed}
 use Rattle.laws.specs.Listing.{sheets, reached, batches}
 use Rattle.rules.specs.Opening.{opening}
+use Rattle.rules.specs.WellFormed.{Sized}
 use Rattle.sheet_order.specs.declared.Piece.{Piece}
 use Rattle.sheet_order.specs.declared.Pieces.{Pieces}
 use Rattle.sheet_order.specs.Row.{most, told, withPiece}
