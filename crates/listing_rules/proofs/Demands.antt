@@ -3,7 +3,7 @@ use mathlib.Core.Path.{_≡_, refl, sym, ap, _∙_}
 use mathlib.Core.Logic.{_≢_}
 use mathlib.Core.Bool.{true}
 use mathlib.Core.List.{List, [], _∷_, _++_, append-nil}
-use Prim.Native.Nat.{ℕ, zero, suc, _+_, _≤_, _<_}
+use Prim.Native.Nat.{ℕ, zero, suc, _+_, _*_, _≤_, _<_}
 use native.Mathlib.Omega.{arith}
 use native.Mathlib.Decide.{ℕ-discrete}
 use lib.IntN.{ℤ, pos}
@@ -25,19 +25,20 @@ use Rattle.steps.specs.Step.{recordOf}
 use Rattle.steps.specs.Run.{stoppedTo, stoppedTeams}
 use Rattle.steps.proofs.Nothing.{nothing-left}
 use Rattle.steps.proofs.Runs.{all-fresh}
+use Rattle.text_rules.specs.declared.Schedule.{Schedule}
 use Rattle.text_rules.specs.Marks.{marks}
 use Rattle.text_rules.specs.Judgement.{scheduleNumbers}
 use Rattle.text_rules.specs.Answers.{scheduleOf}
 use Rattle.text_rules.specs.Demands.{scheduleRoom, WithinLimits}
-use Rattle.text_rules.proofs.Demands.{granted-within-limits, same-marks, comments-never-matter}
+use Rattle.text_rules.proofs.Demands.{half-is-enough, granted-within-limits, same-marks, comments-never-matter}
 use Rattle.line_rules.specs.Line.{Line, leftLine, refusedLine, anyNegative, spaced, whole, text}
 use Rattle.line_rules.proofs.Decimal.{decimal-width}
 use Rattle.line_rules.proofs.Demands.{at-most-40}
 use Rattle.listing_rules.specs.Steps.{headLine, lastLine, notes, startOf, endOf, runLines}
-use Rattle.listing_rules.specs.Listing.{teamsIn, linesOf, bytesOf, listingOf}
+use Rattle.listing_rules.specs.Listing.{teamsIn, linesBy, linesOf, bytesOf, listingOf}
 use Rattle.listing_rules.specs.Paper.{Paper, listed, paperOf}
 use Rattle.listing_rules.specs.Grants.{claimsIn, asked}
-use Rattle.listing_rules.specs.Demands.{IsGranted, opensWith, askedBy, PlainListing, RefusedInOneLine, CommentsNeverPrinted, PrintsWhatWasGranted, NoSheetPrintedTwice, EverySheetPrintedOnce, AllStoppedNoneLeft, WholeOrRefused, PrintsTheListing}
+use Rattle.listing_rules.specs.Demands.{IsGranted, opensWith, askedBy, PlainListing, RefusedInOneLine, CommentsNeverPrinted, PrintsWhatWasGranted, NoSheetPrintedTwice, EverySheetPrintedOnce, AllStoppedNoneLeft, WholeOrRefused, PrintsTheListing, PrintsTheSame}
 use Rattle.listing_rules.proofs.Lines.{Sane, AllSane, none, more, sane-append, plain-bytes, forty-each, all-room, too-long}
 use Rattle.listing_rules.proofs.Noted.{RunTells, run-tells, claims-of-run}
 use Rattle.listing_rules.proofs.Teams.{front-teams}
@@ -227,3 +228,13 @@ prints-the-listing bytes area enough =
     let l = lined scheduleRoom bytes in
     let h = forty-each (linesOf scheduleRoom bytes) (l .sane) in
     whole-or-refused scheduleRoom bytes area .0 (omega (arith, l .few))
+
+same-listing : (room : ℕ) (bytes : List ℕ) → room ≤ scheduleRoom → length bytes < 2 * room → bytesOf (linesOf room bytes) ≡ listingOf bytes
+unfolding listingOf linesOf
+same-listing room bytes few short = ap (λ (s : Schedule). bytesOf (linesBy s (teamsIn bytes))) (half-is-enough room bytes few short)
+
+pub prints-the-same : PrintsTheSame
+prints-the-same room bytes area few short enough =
+    let l = lined room bytes in
+    let h = forty-each (linesOf room bytes) (l .sane) in
+    rw (same-listing room bytes few short) at (whole-or-refused room bytes area .0 (omega (arith, l .few, h, enough)))

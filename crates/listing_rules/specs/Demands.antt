@@ -3,7 +3,7 @@ use mathlib.Core.Path.{_≡_}
 use mathlib.Core.Logic.{_≢_}
 use mathlib.Core.Bool.{true, false}
 use mathlib.Core.List.{List, [], _∷_, _++_}
-use Prim.Native.Nat.{ℕ, _≤_, _<_}
+use Prim.Native.Nat.{ℕ, _+_, _*_, _≤_, _<_}
 use lib.IntN.{ℤ, pos}
 use lib.ListN.{length, drop}
 use Rattle.numbers.specs.Progress.{signed}
@@ -100,12 +100,29 @@ WholeOrRefused =
     (length listing ≤ length area → StandsIn area listing (answerTo room bytes area) (areaAfter room bytes area))
     × (length area < length listing → answerTo room bytes area ≡ record { code = 28; length = 0 })
 
--- 40 bytes for each step, for the open line and for the left line: what `sheets` lends
+-- 40 bytes for each step, for the open line and for the left line
+abbrev pub roomFor : ℕ → ℕ
+roomFor numbers = 40 * (numbers + 2)
+
+-- what `sheets` lends
 abbrev pub listingRoom : ℕ
-listingRoom = 1310800
+listingRoom = roomFor scheduleRoom
 
 -- It is long enough for every text.
 abbrev pub PrintsTheListing : Type 0
 PrintsTheListing =
     (bytes area : List ℕ) → listingRoom ≤ length area
     → StandsIn area (listingOf bytes) (answerTo scheduleRoom bytes area) (areaAfter scheduleRoom bytes area)
+
+-- A short text needs less: room for half as many numbers as it has bytes, and one, with an area for so many lines, gives the same listing.
+abbrev pub PrintsTheSame : Type 0
+PrintsTheSame =
+    (room : ℕ) (bytes area : List ℕ) → room ≤ scheduleRoom → length bytes < 2 * room → roomFor room ≤ length area
+    → StandsIn area (listingOf bytes) (answerTo room bytes area) (areaAfter room bytes area)
+
+-- what `sheets` lends a text of fewer than 4,096 bytes
+abbrev pub shortScheduleRoom : ℕ
+shortScheduleRoom = 2048
+
+abbrev pub shortListingRoom : ℕ
+shortListingRoom = roomFor shortScheduleRoom

@@ -22,7 +22,7 @@ use Rattle.text_rules.specs.Judgement.{maxBytes, isGranted, given, fault
 use Rattle.text_rules.specs.Answers.{headerOf, restPlace, restOf, scheduleOf, areaOf}
 use Rattle.text_rules.specs.declared.Kind.the-variants as kind
 use Rattle.text_rules.specs.Tokens.{tokenOf, tokenAt}
-use Rattle.text_rules.specs.Demands.{scheduleRoom, SameButComments, nothing, same, other, CommentsNeverMatter, RefusedChangesNothing, AllTeams, none, more, GrantedIsWithinLimits, AllExact, exact, GrantedIsExact, NeverShort, Scans, ended, found, tokensOf, ScannerFindsTheMarks}
+use Rattle.text_rules.specs.Demands.{scheduleRoom, SameButComments, nothing, same, other, CommentsNeverMatter, RefusedChangesNothing, AllTeams, none, more, GrantedIsWithinLimits, AllExact, exact, GrantedIsExact, NeverShort, HalfIsEnough, Scans, ended, found, tokensOf, ScannerFindsTheMarks}
 use Rattle.text_rules.proofs.Marks.{later, moves, at-end}
 use Rattle.text_rules.proofs.Digits.{small-value}
 use Rattle.text_rules.proofs.Granted.{passed, header-granted, schedule-granted, granted-is}
@@ -212,8 +212,8 @@ after-fewer (lineEnd k ∷ ms) = omega arith
 after-fewer (number ds k ∷ ms) = omega (arith, after-fewer ms)
 after-fewer (wrong k ∷ ms) = after-fewer ms
 
-enough : (text : List ℕ) → length text ≤ maxBytes → length (scheduleNumbers (marks text)) ≤ scheduleRoom
-enough text h =
+enough : (room : ℕ) (text : List ℕ) → length text < 2 * room → length (scheduleNumbers (marks text)) ≤ room
+enough room text h =
     let ms = marks text in
     omega (arith, after-fewer (fromHead ms), head-fewer ms, few-marks false text, begun-most false text)
 
@@ -254,12 +254,24 @@ body-short ms h =
 
 short-by : (b : Bool) (text : List ℕ) → isGranted (headerVerdict (length text) (marks text)) ≡ b → Short (given (not b) (headerVerdict (length text) (marks text)) (bodyVerdict scheduleRoom (marks text))) → ⊥
 unfolding given
-short-by true text g = body-short (marks text) (enough text (ltb-false maxBytes (length text) (header-granted (length text) (marks text) g .0)))
+short-by true text g =
+    let h = ltb-false maxBytes (length text) (header-granted (length text) (marks text) g .0) in
+    body-short (marks text) (enough scheduleRoom text (omega (arith, h)))
 short-by false text g = header-short (length text) (marks text)
 
 pub never-short : NeverShort
 unfolding scheduleOf scheduleVerdict Short
 never-short text e = short-by (isGranted (headerVerdict (length text) (marks text))) text refl e
+
+-- where neither room is too short, the two say the same
+same-body : (room : ℕ) (ms : List Mark) → length (scheduleNumbers ms) ≤ room → length (scheduleNumbers ms) ≤ scheduleRoom → bodyVerdict room ms ≡ bodyVerdict scheduleRoom ms
+unfolding bodyVerdict
+same-body room ms h most = rw (le-ltb room (length (scheduleNumbers ms)) h, le-ltb scheduleRoom (length (scheduleNumbers ms)) most)
+
+pub half-is-enough : HalfIsEnough
+unfolding scheduleOf scheduleVerdict
+half-is-enough room text few h =
+    rw (same-body room (marks text) (enough room text (omega (arith, h))) (enough scheduleRoom text (omega (arith, few, h))))
 
 -- ---- the scanner finds the marks
 

@@ -2,7 +2,7 @@
 use mathlib.Core.Path.{_≡_}
 use mathlib.Core.Bool.{Bool, true, false}
 use mathlib.Core.List.{List, [], _∷_}
-use Prim.Native.Nat.{ℕ, _≤_}
+use Prim.Native.Nat.{ℕ, _*_, _≤_, _<_}
 use lib.Dec.{eqb}
 use lib.IntN.{ℤ, pos}
 use lib.ListN.{length}
@@ -81,6 +81,13 @@ scheduleRoom = 32768
 
 abbrev pub NeverShort : Type 0
 NeverShort = (text : List ℕ) → scheduleOf scheduleRoom text .code ≡ 27 → ⊥
+
+-- Two numbers have a byte between them, so room for half as many numbers as a text has bytes, and one, is as good as the most: `sheets` lends
+-- a short text a short area.
+abbrev pub HalfIsEnough : Type 0
+HalfIsEnough =
+    (room : ℕ) (text : List ℕ) → room ≤ scheduleRoom → length text < 2 * room
+    → scheduleOf room text ≡ scheduleOf scheduleRoom text
 
 -- The tokens that a scanner finds from a place on, one after the other, up to the text's end.
 pub data Scans (text : List ℕ) : ℕ → List Token → Type 0 where
