@@ -9,6 +9,7 @@
 set -eu
 
 here=$(cd "$(dirname "$0")" && pwd)
+# shellcheck source=test/kit.sh
 . "$here/kit.sh"
 strict='-std=c11 -Wall -Wextra -Werror'
 
@@ -48,7 +49,7 @@ build_x86_64() {
     fi
 }
 
-[ $# -ge 1 ] && [ $# -le 2 ] || die "usage: test/build-twin.sh OUT [native|x86-64]"
+{ [ $# -ge 1 ] && [ $# -le 2 ]; } || die "usage: test/build-twin.sh OUT [native|x86-64]"
 case ${2:-native} in
 native) build_native "$1" ;;
 x86-64) build_x86_64 "$1" ;;

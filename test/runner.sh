@@ -5,6 +5,7 @@
 #
 #   $(test/runner.sh) target/bin/sheets <examples/two-teams.txt
 set -eu
+# shellcheck source=test/kit.sh
 . "$(dirname "$0")/kit.sh"
 
 if [ -z "$kit_tools" ]; then

@@ -199,6 +199,37 @@ def good_long(g):
     return filled(text + b'\n', wanted)
 
 
+def good_padded(g):
+    """Every number with leading zeros, most of them up to the ten digits that one may have."""
+    header = g.choice([a_header, a_stealing_header])(g)
+    numbers = [b'%0*d' % (g.choice([2, 9, 10, 10, 10]), n) for n in header + a_schedule(g, header[2])]
+    return b' '.join(numbers[:5]) + b'\n' + b' '.join(numbers[5:]) + b'\n'
+
+
+def good_windows(g):
+    """A text as it comes from a spreadsheet: tabs between the numbers, CR LF at each line's end, some lines with nothing but a remark."""
+    header = a_stealing_header(g)
+    rows = [header] + [a_schedule(g, header[2], g.randint(0, 12)) for _ in range(g.randint(1, 40))]
+    lines = [b'\t'.join(b'%d' % n for n in row) for row in rows]
+    remarks = [a_comment(g) if g.random() < 0.3 else b'' for _ in lines]
+    return b''.join(line + b'\t' + remark + b'\r\n' for line, remark in zip(lines, remarks))
+
+
+def good_commented(g):
+    """A comment on every line, short or of some thousand bytes, with numbers in it that do not count."""
+    header = a_stealing_header(g)
+    text = joined(header) + b' # the five numbers\n'
+    for team in a_schedule(g, header[2], 120):
+        text += b'%d' % team + a_comment(g) + g.choice([b'', b' 9' * g.choice([1, 40, 1500])]) + b'\n'
+    return text[:g.choice([TEXT_LIMIT, 9000])]
+
+
+def good_stopped(g):
+    """Few sheets, and steps that go on long after every team has stopped."""
+    header = [0, g.randint(0, 9), g.choice([1, 2, 5, TEAMS_LIMIT]), g.choice([1, 4, CAP_LIMIT]), g.choice([1, 3, 7, 63])]
+    return plain(header, round_robin(g, header[2], g.choice([500, 3000, 20000])))[:TEXT_LIMIT - 2].rpartition(b' ')[0] + b'\n'
+
+
 def good_bare(g):
     """Only a header, in every way that a text can end after it."""
     end = g.choice([b'', b'\n', b'\r\n', b' ', b'#', b'# end', b'\n\n\n', b'\n# end'])
@@ -234,6 +265,13 @@ def one_byte_off(g):
     at = a_place(g, text)
     return g.choice([text[:at] + byte + text[at:], text[:at] + byte + text[at + 1:],
                      text[:at] + text[at + 1:]])
+
+
+def damaged_late(g):
+    """A long text with one wrong byte at its end, or near it."""
+    text = bytearray(good_long(g).rstrip(b'#'))
+    text[-g.choice([1, 1, 2, 3, 7])] = g.choice(b'x-,\x00\xff')
+    return bytes(text)
 
 
 def cut_short(g):
@@ -312,7 +350,8 @@ def two_faults(g):
 KINDS = [good_plain, good_messy, good_stealing, telling_byte, good_crowded, good_finished, good_bare,
          one_byte_off, header_limits, good_messy, good_stealing, cut_short, odd_number, header_count,
          good_top, team_limits, good_stealing, length_limits, nothing, two_faults, one_byte_off, good_long,
-         telling_byte, good_crowded, good_messy, odd_number, two_faults, header_limits, many_numbers]
+         telling_byte, good_crowded, good_messy, odd_number, two_faults, header_limits, many_numbers,
+         good_padded, good_windows, good_commented, good_stopped, damaged_late]
 
 
 def earlier_of(kind, number):
