@@ -4,17 +4,16 @@ use mathlib.Core.Bool.{Bool, true, false, cond}
 use Prim.Native.Nat.{ℕ, _+_, _*_}
 use native.Mathlib.Omega.{arith}
 use lib.IntN.{pos, negsuc}
-use Rattle.numbers.specs.Fields.{natOf}
 use Rattle.rules.specs.declared.Ledger.{Ledger}
 use Rattle.rules.specs.declared.Request.{Request}
 use Rattle.rules.specs.declared.Answered.{Answered}
-use Rattle.rules.specs.Asks.{ADVANCE, MARK, EXPAND, byKind}
+use Rattle.rules.specs.Asks.{ADVANCE, MARK, EXPAND}
 use Rattle.rules.specs.Nodes.{moved, parted, positionOf, middle, leftPart, rightPart}
 use Rattle.rules.specs.Requests.{refused, ranged, split, batchEnd, nodeIn, answered, requested}
 use Rattle.laws.specs.Sheet40.{IsGranted, ClaimGranted, MarkGranted, SplitGranted}
 use Rattle.rules.specs.Table.{at, put, nextPair, stolenIn}
 use Rattle.rules.specs.WellFormed.{wellFormed, Sized}
-use Rattle.rules.proofs.Granted.{Asked, Advancing, Marking, after as splitAt, Answers, refuses, owns, advances, marks, expands, looks, answers}
+use Rattle.rules.proofs.Granted.{Asked, Advancing, Marking, after as splitAt, Answers, refuses, advances, marks, expands, answers}
 use Rattle.rules.proofs.Record.{WF, rules, both-sound}
 use Rattle.rules.proofs.States.{Stolen}
 
@@ -49,32 +48,30 @@ pub record Parted (l : Ledger) (r : Request) (a : Answered) : Type 0 where
       ≡ splitAt l (nodeIn r) (parted (at l (nodeIn r)) (nextPair l)) (nextPair l) (leftPart (at l (nodeIn r))) (rightPart (at l (nodeIn r)))
   pub answer : a .answer ≡ split (nextPair l) (middle (at l (nodeIn r)))
 
--- what is so of a granted request of a kind
-abbrev GrantedAs : ℕ → Ledger → Request → Answered → Type 0
-GrantedAs kind l r a = byKind kind (Unit {0}) (Claimed l r a) (Marked l r a) (Parted l r a) (Unit {0})
+as-claimed : {l : Ledger} {r : Request} {a : Answered} → Answers l r ADVANCE a → a .answer .code ≡ 0 → Claimed l r a
+as-claimed (refuses ne) z = absurd (ne z)
+as-claimed (advances q f) z = record { asked = q; facts = f; ledger = refl; answer = refl }
 
-granted-as : {l : Ledger} {r : Request} {a : Answered} → Answers l r a → a .answer .code ≡ 0 → GrantedAs (natOf (r .kind)) l r a
-granted-as (refuses ne) z = absurd (ne z)
-granted-as (owns k q f) z = rw k tt
-granted-as (advances k q f) z = rw k (record { asked = q; facts = f; ledger = refl; answer = refl })
-granted-as (marks k q f) z = rw k (record { asked = q; facts = f; ledger = refl })
-granted-as (expands k q f) z = rw k (record { asked = q; facts = f; ledger = refl; answer = refl })
-granted-as (looks k q) z = rw k tt
+as-marked : {l : Ledger} {r : Request} {a : Answered} → Answers l r MARK a → a .answer .code ≡ 0 → Marked l r a
+as-marked (refuses ne) z = absurd (ne z)
+as-marked (marks q f) z = record { asked = q; facts = f; ledger = refl }
+
+as-parted : {l : Ledger} {r : Request} {a : Answered} → Answers l r EXPAND a → a .answer .code ≡ 0 → Parted l r a
+as-parted (refuses ne) z = absurd (ne z)
+as-parted (expands q f) z = record { asked = q; facts = f; ledger = refl; answer = refl }
 
 module _ (l : Ledger) (r : Request) where
-  is-granted : (kind : ℕ) → IsGranted kind l r → GrantedAs kind l r (requested l r)
-  is-granted kind g =
-      let e = granted-answered l r (g .code-is) .1 in
-      rw (← g .kind-is, e) (granted-as (answers l r) (rw e at (g .code-is)))
+  granted-at : (kind : ℕ) → IsGranted kind l r → Answers l r kind (requested l r)
+  granted-at kind g = rw (← g .kind-is, granted-answered l r (g .code-is) .1) (answers l r)
 
   pub is-claimed : ClaimGranted l r → Claimed l r (requested l r)
-  is-claimed g = is-granted ADVANCE g
+  is-claimed g = as-claimed (granted-at ADVANCE g) (g .code-is)
 
   pub is-marked : MarkGranted l r → Marked l r (requested l r)
-  is-marked g = is-granted MARK g
+  is-marked g = as-marked (granted-at MARK g) (g .code-is)
 
   pub is-parted : SplitGranted l r → Parted l r (requested l r)
-  is-parted g = is-granted EXPAND g
+  is-parted g = as-parted (granted-at EXPAND g) (g .code-is)
 
   pub granted-wf : (kind : ℕ) → Sized l → IsGranted kind l r → WF l
   granted-wf kind sized g = rules l (both-sound sized (granted-answered l r (g .code-is) .0))

@@ -1,13 +1,13 @@
 -- No sheet is granted twice: the nodes in which a sheet is unclaimed never become more, a batch that has it takes one away,
 -- and a new ledger has at most one.
-use mathlib.Core.Path.{_≡_, refl, ap}
+use mathlib.Core.Path.{_≡_, refl, sym, ap, _∙_}
 use mathlib.Core.Bool.{cond, _&&_}
 use mathlib.Core.List.{List, [], _∷_, _++_}
 use Prim.Native.Nat.{ℕ, zero, suc, _+_, _≤_, _<_}
 use native.Mathlib.Omega.{arith}
 use native.Mathlib.Decide.{ℕ-discrete, decLt, decLe}
 use lib.Dec.{leb, ltb}
-use lib.IntN.{pos, negsuc}
+use lib.IntN.{pos}
 use lib.ListN.{replicate}
 use borrow.Author.Tests.{eq-eqb, ne-eqb, le-leb, lt-leb, lt-ltb, le-ltb}
 use Rattle.numbers.specs.Fields.{natOf}
@@ -16,16 +16,16 @@ use Rattle.rules.specs.declared.Ledger.{Ledger}
 use Rattle.rules.specs.declared.Opening.{Opening}
 use Rattle.rules.specs.declared.Request.{Request}
 use Rattle.rules.specs.declared.Answer.{Answer}
-use Rattle.rules.specs.declared.Answered.{Answered}
 use Rattle.rules.specs.Asks.{ADVANCE}
 use Rattle.rules.specs.Limits.{slotsAfter}
 use Rattle.laws.specs.Listing.{Batch, afterAll, isClaim, batchOf, batches, timesIn}
-use Rattle.rules.specs.Nodes.{blank, fresh, owned, moved, parted, childless, positionOf, middle, leftPart, rightPart}
+use Rattle.rules.specs.Nodes.{blank, fresh, moved, parted, childless, positionOf, middle, leftPart, rightPart}
 use Rattle.rules.specs.Opening.{opened, ledgerOf}
 use Rattle.rules.specs.Requests.{batchEnd, nodeIn, requested}
 use Rattle.laws.specs.Sheet40.{Inside, Gives, NeverGrantedTwice, GivenOnceAtMost}
 use Rattle.rules.specs.Table.{InUse, at, put, nextPair, sumBy}
-use Rattle.rules.proofs.Granted.{Asked, in-use, Advancing, Answers, refuses, owns, advances, marks, expands, looks, answers}
+use Rattle.rules.proofs.Effects.{Kept, Becomes, same, stored as put-there, forked, becomes-of}
+use Rattle.rules.proofs.Granted.{in-use}
 use Rattle.rules.proofs.Keeps.{requested-wf, requested-good}
 use Rattle.laws.proofs.Runs.{run-good, after-append}
 use Rattle.rules.proofs.Opens.{opened-wf}
@@ -101,38 +101,26 @@ freeAt s l = sumBy (freeIn s) (l .nodes)
 
 -- ---- one request
 
-module _ (s : ℕ) (l : Ledger) (r : Request) (w : WF l) (asked : Asked (l .teams) (l .used) r) where
-  abbrev n : ℕ
-  n = nodeIn r
-
+module _ (s : ℕ) (l : Ledger) (w : WF l) (n : ℕ) (used : InUse l n) where
   abbrev x : Node
   x = at l n
 
-  abbrev y : Node
-  y = moved x (pos (batchEnd x r))
-
-  used : InUse l n
-  used = in-use l r asked
-
   stored : (z : Node) → freeAt s (put l n z) + freeIn s x ≡ freeAt s l + freeIn s z
   unfolding freeAt
-  stored z = sumBy-put (freeIn s) l n z (asked .node .low) (in-table l w n used)
+  stored z = sumBy-put (freeIn s) l n z (used .low) (in-table l w n used)
 
-  -- an own or a mark moves nothing
-  kept : (z : Node) → freeIn s z ≡ freeIn s x → freeAt s (put l n z) ≤ freeAt s l
-  kept z e = omega (arith, stored z)
-
-  less-free : Advancing x r → freeIn s y + freeIn s blank ≤ freeIn s x
-  less-free f =
+  -- the range and the children stay, and the position never falls
+  less-free : (y : Node) → Kept x y → freeIn s y + freeIn s blank ≤ freeIn s x
+  less-free y h =
       shared
       s
       x
       y
       blank
       (λ g. record {
-        leaf = no-children l w n used (f .here .plain);
-        low = omega (arith, g .low, f .end, w .alone n used .high);
-        high = g .high;
+        leaf = sym (h .left) ∙ g .leaf;
+        low = omega (arith, g .low, h .forward (w .alone n used .high));
+        high = omega (arith, g .high, h .until);
       })
       (λ g. absurd (free-blank s g))
       (λ g h. free-blank s h)
@@ -155,17 +143,13 @@ module _ (s : ℕ) (l : Ledger) (r : Request) (w : WF l) (asked : Asked (l .team
       omega
       (arith, halves f, is-none s (parted x (nextPair l)) (λ g. let e = g .leaf in omega (arith, spare l w .past)), sums l w n used f (freeIn s) (is-none s blank (free-blank s)))
 
-answers-free : {l : Ledger} {r : Request} {a : Answered} (s : ℕ) → WF l → Answers l r a → freeAt s (a .ledger) ≤ freeAt s l
-unfolding freeIn
-answers-free s w (refuses ne) = omega arith
-answers-free {l} {r} s w (owns k q f) = kept s l r w q (owned (at l (nodeIn r)) (natOf (r .team))) refl
-answers-free {l} {r} s w (advances k q f) = omega (arith, less-free s l r w q f, stored s l r w q (moved (at l (nodeIn r)) (pos (batchEnd (at l (nodeIn r)) r))))
-answers-free {l} {r} s w (marks k q f) = kept s l r w q (moved (at l (nodeIn r)) (negsuc (positionOf (at l (nodeIn r))))) refl
-answers-free {l} {r} s w (expands k q f) = split-free s l r w q f
-answers-free s w (looks k q) = omega arith
+becomes-free : {l k : Ledger} {n : ℕ} (s : ℕ) → WF l → Becomes l n k → freeAt s k ≤ freeAt s l
+becomes-free s w same = omega arith
+becomes-free {l} {n = n} s w (put-there y u h) = omega (arith, less-free s l w n u y h, stored s l w n u y)
+becomes-free {l} {n = n} s w (forked u f) = split-free s l w n u f
 
 requested-free : (s : ℕ) (l : Ledger) (r : Request) → WF l → freeAt s (requested l r .ledger) ≤ freeAt s l
-requested-free s l r w = rw (requested-wf l r w) (answers-free s w (answers l r))
+requested-free s l r w = rw (requested-wf l r w) (becomes-free s w (becomes-of l r))
 
 run-free : (s : ℕ) (l : Ledger) (rs : List Request) → WF l → freeAt s (afterAll l rs) ≤ freeAt s l
 unfolding afterAll
@@ -205,7 +189,7 @@ module _ (s : ℕ) (l : Ledger) (r : Request) (w : WF l) (g : Gives l r s) where
   gone f = omega (arith, f .low, inside .high)
 
   taken : freeAt s (requested l r .ledger) + 1 ≤ freeAt s l
-  taken = rw (c .ledger) (omega (arith, stored s l r w (c .asked) v, is-one s u was, is-none s v gone))
+  taken = rw (c .ledger) (omega (arith, stored s l w (nodeIn r) (in-use l r (c .asked)) v, is-one s u was, is-none s v gone))
 
 -- ---- a run
 

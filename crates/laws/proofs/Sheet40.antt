@@ -1,32 +1,36 @@
 -- The student's three steps, and the answer, proved.
 use mathlib.Core.Path.{_≡_, refl, sym, ap, _∙_}
-use mathlib.Core.Logic.{_⊎_, inl, inr}
-use mathlib.Core.Bool.{true≢false}
+use mathlib.Core.Logic.{_≢_, _⊎_, inl, inr}
+use mathlib.Core.Bool.{true, true≢false}
 use mathlib.Core.List.{List, _∷_}
 use Prim.Native.Nat.{ℕ, _+_, _<_}
 use native.Mathlib.Omega.{arith}
 use native.Mathlib.Decide.{decLt}
-use lib.IntN.{pos, negsuc}
+use lib.IntN.{ℤ, pos, negsuc}
 use Rattle.numbers.specs.Progress.{negative, position}
-use Rattle.numbers.specs.Fields.{natOf}
+use Rattle.numbers.specs.Fields.{within, natOf}
+use Rattle.numbers.proofs.Laws.{Within, within-made}
 use Rattle.rules.specs.declared.Node.{Node}
 use Rattle.rules.specs.declared.Ledger.{Ledger}
 use Rattle.rules.specs.declared.Request.{Request}
 use Rattle.rules.specs.declared.Answer.{Answer}
 use Rattle.rules.specs.Asks.{ADVANCE, MARK, EXPAND}
+use Rattle.rules.specs.LateClaim.{Late}
+use Rattle.rules.specs.Limits.{maxAmount}
 use Rattle.laws.specs.Listing.{afterAll}
 use Rattle.rules.specs.Nodes.{moved, parted, positionOf, middle, leftPart, rightPart}
 use Rattle.rules.specs.Requests.{batchEnd, nodeIn, requested}
-use Rattle.laws.specs.Sheet40.{ClaimGranted, MarkGranted, SplitGranted, InBatch, InNode, ClaimStands, MarkReadBack, MarkIsFinal, SharedOut, SplitStartsAtMark, SamePlace, ToClaimer, ToStealer, HerAnswer}
+use Rattle.laws.specs.Sheet40.{ClaimGranted, MarkGranted, SplitGranted, InBatch, InNode, ClaimStands, LateClaimRefused, MarkReadBack, MarkIsFinal, SharedOut, SplitStartsAtMark, SamePlace, ToClaimer, ToStealer, HerAnswer}
 use Rattle.rules.specs.Table.{InUse, at, nextPair}
 use Rattle.rules.specs.WellFormed.{Sized}
 use Rattle.laws.proofs.Batches.{sheets-join}
 use Rattle.rules.proofs.Granted.{Asked, in-use}
+use Rattle.rules.proofs.LateClaim.{late-claim}
 use Rattle.rules.proofs.Nodes.{at-same}
-use Rattle.laws.proofs.Runs.{run-good}
+use Rattle.laws.proofs.Runs.{run-good, run-range}
 use Rattle.rules.proofs.Keeps.{requested-good}
 use Rattle.laws.proofs.Onward.{Onward, requested-later, run-later}
-use Rattle.rules.proofs.Record.{WF, in-table}
+use Rattle.rules.proofs.Record.{WF, in-table, rules-back}
 use Rattle.laws.proofs.Claims.{Claimed, Parted, is-claimed, is-marked, is-parted, granted-wf}
 use Rattle.rules.proofs.Expand.{Slots, split-slots}
 
@@ -37,6 +41,36 @@ claim-stands l r g =
     let c = is-claimed l r g in
     let h = c .facts .here in
     record { unmarked = h .plain; stands = h .same; «from» = rw (c .answer) (sym (h .progress-is)) }
+
+-- in its limits, as a test
+tested : (z : ℤ) (a b : ℕ) → Within z a b → within z a b ≡ true
+tested z a b w = ap (λ i. within i a b) (w .is) ∙ within-made (natOf z) a b (w .low) (w .high)
+
+-- what the claim found stays: its team, its node, and who owns it
+still-late : (l : Ledger) (claim : Request) (between : List Request) (w : WF l) (g : ClaimGranted l claim)
+    → claim .position ≢ at (afterAll l between) (nodeIn claim) .progress
+    → Late (afterAll l between) claim
+still-late l claim between w g passed =
+    let c = is-claimed l claim g in
+    let u = in-use l claim (c .asked) in
+    let later = run-later l between w in
+    let v = later .used (nodeIn claim) u in
+    let team = c .asked .team in
+    let owner = later .each (nodeIn claim) u .owner (omega (arith, c .facts .mine, team .low)) in
+    record {
+      kind = c .asked .kind .is ∙ ap pos (g .kind-is);
+      team =
+          tested (claim .team) 1 (afterAll l between .teams) (record { is = team .is; low = team .low; high = omega (arith, team .high, run-range l between w .teams) });
+      node = tested (claim .node) 1 (afterAll l between .used) (record { is = c .asked .node .is; low = v .low; high = v .high });
+      amount = tested (claim .amount) 1 maxAmount (c .facts .amount);
+      mine = team .is ∙ ap pos (sym (owner ∙ c .facts .mine));
+      passed = passed;
+    }
+
+pub late-claim-refused : LateClaimRefused
+late-claim-refused l claim between sized g passed =
+    let w = granted-wf l claim ADVANCE sized g in
+    late-claim (afterAll l between) claim (rules-back (afterAll l between) (run-later l between w .wf)) (still-late l claim between w g passed)
 
 -- ---- the second step
 

@@ -2,31 +2,34 @@
 -- were granted. So it reads the whole range; and it stands after any requests.
 use mathlib.Core.Path.{_≡_, refl, ap, _∙_}
 use mathlib.Core.Logic.{_≢_}
-use mathlib.Core.Bool.{true}
+use mathlib.Core.Bool.{Bool, true, false, cond}
 use mathlib.Core.List.{List, [], _∷_, _++_, append-assoc, append-nil}
 use Prim.Native.Nat.{ℕ, _+_, _<_}
 use native.Mathlib.Omega.{arith}
 use native.Mathlib.Decide.{ℕ-discrete}
-use lib.IntN.{pos, negsuc}
+use lib.Dec.{eqb}
+use lib.IntN.{pos}
 use borrow.Author.Tests.{eq-eqb, ne-eqb}
 use Rattle.numbers.specs.Fields.{natOf}
 use Rattle.rules.specs.declared.Node.{Node}
 use Rattle.rules.specs.declared.Ledger.{Ledger}
 use Rattle.rules.specs.declared.Opening.{Opening}
 use Rattle.rules.specs.declared.Request.{Request}
+use Rattle.rules.specs.declared.Answer.{Answer}
 use Rattle.rules.specs.declared.Answered.{Answered}
 use Rattle.laws.specs.Listing.{sheets, afterAll, Batch, batchIn}
+use Rattle.rules.specs.Asks.{OWN, ADVANCE, MARK, EXPAND}
 use Rattle.rules.specs.Limits.{opens}
 use Rattle.rules.specs.Opening.{opened, ledgerOf}
-use Rattle.rules.specs.Nodes.{owned, moved, parted as partedNode, positionOf, middle, leftPart, rightPart}
+use Rattle.rules.specs.Nodes.{moved, parted as partedNode, positionOf, middle, leftPart, rightPart}
 use Rattle.laws.specs.Story.{Story, whole, parted, claimed, split, onNode, told, toldAll, sheetsOf, read, unclaimedAt, EverySheetRead}
-use Rattle.rules.specs.Refusals.{refusal}
-use Rattle.rules.specs.Requests.{ranged as rangedAnswer, batchEnd, view, nodeIn, requested}
+use Rattle.rules.specs.Requests.{ranged as rangedAnswer, batchEnd, nodeIn, requested}
 use Rattle.rules.specs.Table.{InUse, at, put, nextPair}
 use Rattle.laws.proofs.Batches.{sheets-join, sheets-none}
 use Rattle.rules.proofs.Expand.{Slots, next, split-slots, stays}
-use Rattle.rules.proofs.Granted.{Asked, in-use, Advancing, Answers, refuses, owns, advances, marks, expands, looks, answers}
-use Rattle.rules.proofs.Keeps.{wf-answers, requested-wf}
+use Rattle.rules.proofs.Effects.{Quiet, Effect, rests, stores, claims as grants, splits as forks, effect-of}
+use Rattle.rules.proofs.Granted.{Asked, in-use, Advancing}
+use Rattle.rules.proofs.Keeps.{wf-answered, requested-wf}
 use Rattle.laws.proofs.Runs.{run-range}
 use Rattle.rules.proofs.Nodes.{at-same, at-other, put-used}
 use Rattle.rules.proofs.Opens.{begun, opened-wf, opened-root}
@@ -131,13 +134,7 @@ unfolding sheetsOf
 sheetsOf-last [] b = append-nil (sheets (b .from) (b .to))
 sheetsOf-last (a ∷ bs) b = rw append-assoc (ap (λ (xs : List ℕ). sheets (a .from) (a .to) ++ xs) (sheetsOf-last bs b))
 
-module _ (l : Ledger) (w : WF l) (r : Request) (asked : Asked (l .teams) (l .used) r) (y : Node) where
-  abbrev n : ℕ
-  n = nodeIn r
-
-  u : InUse l n
-  u = in-use l r asked
-
+module _ (l : Ledger) (w : WF l) (n : ℕ) (u : InUse l n) (y : Node) where
   same : at (put l n y) n ≡ y
   same = at-same l n y (u .low) (in-table l w n u)
 
@@ -180,9 +177,9 @@ module _ (l : Ledger) (w : WF l) (r : Request) (asked : Asked (l .teams) (l .use
       is-whole
       {n = p}
       {bs = bs ++ (b ∷ [])}
-      (here-used l w r asked y p z)
-      (rw (z, same l w r asked y) (rw z at e))
-      (rw (z, same l w r asked y) (claim-given bs (rw z at g)))
+      (here-used l w (nodeIn r) (in-use l r asked) y p z)
+      (rw (z, same l w (nodeIn r) (in-use l r asked) y) (rw z at e))
+      (rw (z, same l w (nodeIn r) (in-use l r asked) y) (claim-given bs (rw z at g)))
   claim-here p z s (is-parted v some e g a a′) =
       let none : at l p .left ≡ 0 = rw z (no-children l w (nodeIn r) (in-use l r asked) (f .here .plain)) in
       absurd (omega arith)
@@ -194,7 +191,7 @@ module _ (l : Ledger) (w : WF l) (r : Request) (asked : Asked (l .teams) (l .use
       (put l (nodeIn r) y)
       (nodeIn r)
       (claimed b)
-      (λ m v ne. there l w r asked y m v ne)
+      (λ m v ne. there l w (nodeIn r) (in-use l r asked) y m v ne)
       claim-here
 
 -- ---- a split gives its node two new stories
@@ -242,26 +239,35 @@ module _ (l : Ledger) (w : WF l) (n : ℕ) (u : InUse l n) (st : Stolen (at l n)
 
 -- ---- any request
 
-answers-stand : {l : Ledger} {r : Request} {a : Answered} → WF l → Answers l r a → (s : Story) → Stands l 1 s
-    → Stands (a .ledger) 1 (told r (a .answer) s)
+-- an answer that is quiet adds nothing to the story
+pub quiet-told : (r : Request) (a : Answer) (s : Story) → Quiet r a → told r a s ≡ s
 unfolding told
-answers-stand {l} {r} w (refuses ne) s h = rw (ne-eqb (refusal (view l (nodeIn r)) r) 0 ne) h
-answers-stand {l} {r} w (owns k q f) s h =
-    rw
-    k
-    (still-stands l w r q (owned (at l (nodeIn r)) (natOf (r .team))) refl refl refl h)
-answers-stand {l} {r} w (advances k q f) s h = rw k (claims l w r q f h)
-answers-stand {l} {r} w (marks k q f) s h =
-    rw
-    k
-    (still-stands l w r q (moved (at l (nodeIn r)) (negsuc (positionOf (at l (nodeIn r))))) refl refl refl h)
-answers-stand {l} {r} w (expands k q f) s h = rw k (splits l w (nodeIn r) (in-use l r q) f h)
-answers-stand {l} {r} w (looks k q) s h = rw k h
+quiet-told r a s q = go (ℕ-discrete (a .code) 0)
+  where
+    either-way : (b c : Bool) → cond b s (cond c s s) ≡ s
+    either-way true c = refl
+    either-way false true = refl
+    either-way false false = refl
+
+    go : Dec (a .code ≡ 0) → told r a s ≡ s
+    go (yes z) =
+        rw
+        (eq-eqb (a .code) 0 z, ne-eqb (natOf (r .kind)) ADVANCE (λ e. q .no-claim e z), ne-eqb (natOf (r .kind)) EXPAND (λ e. q .no-split e z))
+        (either-way (eqb (natOf (r .kind)) OWN) (eqb (natOf (r .kind)) MARK))
+    go (no ne) = rw (ne-eqb (a .code) 0 ne)
+
+effect-stands : {l : Ledger} {r : Request} {a : Answered} → WF l → Effect l r a → (s : Story) → Stands l 1 s
+    → Stands (a .ledger) 1 (told r (a .answer) s)
+effect-stands {r = r} w (rests {a = a} q) s h = rw (quiet-told r a s q) h
+effect-stands {l} {r} w (stores {a = a} y q u kept e) s h =
+    rw (quiet-told r a s q) (still-stands l w (nodeIn r) u y (kept .start) (kept .left) e h)
+effect-stands {l} {r} w (grants is q f) s h = unfold told in (rw is (claims l w r q f h))
+effect-stands {l} {r} w (forks is q f) s h = unfold told in (rw is (splits l w (nodeIn r) (in-use l r q) f h))
 
 pub requested-stands : (l : Ledger) (r : Request) (s : Story) → WF l → Stands l 1 s
     → WF (requested l r .ledger) × Stands (requested l r .ledger) 1 (told r (requested l r .answer) s)
 requested-stands l r s w h =
-    rw (requested-wf l r w) (wf-answers w (answers l r), answers-stand w (answers l r) s h)
+    rw (requested-wf l r w) (wf-answered l r w, effect-stands w (effect-of l r) s h)
 
 pub run-stands : (l : Ledger) (rs : List Request) (s : Story) → WF l → Stands l 1 s
     → WF (afterAll l rs) × Stands (afterAll l rs) 1 (toldAll l s rs)

@@ -13,16 +13,16 @@ use Rattle.rules.specs.declared.Answered.{Answered}
 use Rattle.laws.specs.Listing.{Batch, batchIn, batchOf, batches}
 use Rattle.rules.specs.Nodes.{positionOf}
 use Rattle.rules.specs.Opening.{ledgerOf}
-use Rattle.rules.specs.Refusals.{refusal}
-use Rattle.rules.specs.Requests.{refusing, ranged, batchEnd, view, nodeIn, requested}
+use Rattle.rules.specs.Requests.{ranged, batchEnd, nodeIn, requested}
 use Rattle.laws.specs.Story.{Story, whole, parted, claimed, split, onNode, told, toldAll, batchesIn, tally, StoryHasAll}
 use Rattle.rules.specs.Table.{InUse, at, nextPair}
 use Rattle.laws.proofs.Batches.{no-batch, one-batch}
-use Rattle.rules.proofs.Granted.{in-use, Answers, refuses, owns, advances, marks, expands, looks, answers}
+use Rattle.rules.proofs.Effects.{Effect, rests, stores, claims, splits, effect-of}
+use Rattle.rules.proofs.Granted.{in-use}
 use Rattle.rules.proofs.Keeps.{requested-wf}
 use Rattle.rules.proofs.Opens.{opened-wf}
 use Rattle.rules.proofs.Record.{WF}
-use Rattle.laws.proofs.Story.{Stands, is-whole, is-parted, requested-stands, begins}
+use Rattle.laws.proofs.Story.{Stands, is-whole, is-parted, quiet-told, requested-stands, begins}
 use Rattle.rules.proofs.Opens.{begun}
 use Rattle.rules.proofs.Rooted.{rooted}
 use Rattle.rules.proofs.Tree.{sameAs, same-one, same-none, Tree, leaf, fork, times}
@@ -99,25 +99,21 @@ module _ (f : Batch → ℕ) where
   live-once : (l : Ledger) → WF l → (s : Story) → Stands l 1 s → (n : ℕ) → InUse l n → live n s ≡ 1
   live-once l w s h n u = live-times n refl h (rooted l w .tree) ∙ rooted l w .once n u
 
-  counted : {l : Ledger} {r : Request} {a : Answered} → WF l → Answers l r a → (s : Story) → Stands l 1 s
+  counted : {l : Ledger} {r : Request} {a : Answered} → WF l → Effect l r a → (s : Story) → Stands l 1 s
       → count (told r (a .answer) s) ≡ count s + tally f (batchOf r (a .answer))
-  unfolding told tally
-  counted {l} {r} w (refuses ne) s h =
-      rw
-      (ne-eqb (refusal (view l (nodeIn r)) r) 0 ne, no-batch r (refusing (view l (nodeIn r)) (refusal (view l (nodeIn r)) r)) (λ e. ne))
-      (omega arith)
-  counted {l} {r} w (owns k q g) s h = rw (k, no-batch r _ (λ e. absurd (omega arith))) (omega arith)
-  counted {l} {r} w (advances k q g) s h =
+  unfolding tally
+  counted {r = r} w (rests {a = a} q) s h = rw (quiet-told r a s q, no-batch r a (q .no-claim)) (omega arith)
+  counted {r = r} w (stores {a = a} y q u kept e) s h = rw (quiet-told r a s q, no-batch r a (q .no-claim)) (omega arith)
+  counted {l} {r} w (claims is q g) s h =
       let b = batchIn r (ranged (positionOf (at l (nodeIn r))) (batchEnd (at l (nodeIn r)) r)) in
       let one = live-once l w s h (nodeIn r) (in-use l r q) in
       let c = rw one at (on-count (nodeIn r) (claimed b) (f b) (claim-adds b) s (omega arith)) in
-      rw (one-batch r (ranged (positionOf (at l (nodeIn r))) (batchEnd (at l (nodeIn r)) r)) k refl, k) (omega arith)
-  counted {l} {r} w (marks k q g) s h = rw (k, no-batch r _ (λ e. absurd (omega arith))) (omega arith)
-  counted {l} {r} w (expands k q g) s h =
+      unfold told in
+      (rw (one-batch r (ranged (positionOf (at l (nodeIn r))) (batchEnd (at l (nodeIn r)) r)) is refl, is) (omega arith))
+  counted {l} {r} w (splits is q g) s h =
       let one = live-once l w s h (nodeIn r) (in-use l r q) in
       let c = rw one at (on-count (nodeIn r) (split (nextPair l)) 0 (split-adds (nextPair l)) s (omega arith)) in
-      rw (no-batch r _ (λ e. absurd (omega arith)), k) (omega arith)
-  counted {l} {r} w (looks k q) s h = rw (k, no-batch r _ (λ e. absurd (omega arith))) (omega arith)
+      unfold told in (rw (no-batch r _ (λ e. absurd (omega arith)), is) (omega arith))
 
   run-counted : (l : Ledger) (rs : List Request) (s : Story) → WF l → Stands l 1 s
       → count (toldAll l s rs) ≡ count s + tally f (batches l rs)
@@ -126,7 +122,7 @@ module _ (f : Batch → ℕ) where
   run-counted l (r ∷ rs) s w h =
       let k = requested-stands l r s w h in
       let one : count (told r (requested l r .answer) s) ≡ count s + tally f (batchOf r (requested l r .answer)) =
-      rw (requested-wf l r w) (counted w (answers l r) s h) in
+      rw (requested-wf l r w) (counted w (effect-of l r) s h) in
       let all = run-counted (requested l r .ledger) rs (told r (requested l r .answer) s) (k .0) (k .1) in
       omega (arith, tally-append f (batches (requested l r .ledger) rs) (batchOf r (requested l r .answer)))
 

@@ -6,25 +6,23 @@ use mathlib.Core.List.{List, [], _∷_, _++_, append-assoc, append-nil}
 use Prim.Native.Nat.{ℕ, _+_, _≤_, _<_}
 use native.Mathlib.Omega.{arith}
 use native.Mathlib.Decide.{ℕ-discrete}
-use lib.IntN.{pos, negsuc}
-use Rattle.numbers.specs.Fields.{natOf}
+use lib.IntN.{pos}
 use Rattle.rules.specs.declared.Node.{Node}
 use Rattle.rules.specs.declared.Ledger.{Ledger}
 use Rattle.rules.specs.declared.Request.{Request}
 use Rattle.rules.specs.declared.Answered.{Answered}
 use Rattle.laws.specs.Listing.{sheets, unclaimedOf, afterAll, Batch, batchIn, batchOf, batches, grantedFrom, Lists, ends, parts, ListsOnly}
-use Rattle.rules.specs.Nodes.{owned, moved, parted, positionOf, middle, leftPart, rightPart}
-use Rattle.rules.specs.Refusals.{refusal}
-use Rattle.rules.specs.Requests.{refusing, ranged, batchEnd, view, nodeIn, requested}
+use Rattle.rules.specs.Nodes.{moved, parted, positionOf, middle, leftPart, rightPart}
+use Rattle.rules.specs.Requests.{ranged, batchEnd, nodeIn, requested}
 use Rattle.rules.specs.Table.{InUse, at, put, nextPair}
 use Rattle.laws.proofs.Batches.{sheets-join, sheets-none, no-batch, one-batch, granted-here, granted-other}
-use Rattle.rules.proofs.Granted.{Asked, in-use, Advancing, Answers, refuses, owns, advances, marks, expands, looks, answers}
-use Rattle.rules.proofs.Keeps.{wf-answers, requested-wf}
+use Rattle.rules.proofs.Effects.{Kept, claim-kept, Effect, rests, stores, claims, splits, effect-of}
+use Rattle.rules.proofs.Granted.{Asked, in-use, Advancing}
+use Rattle.rules.proofs.Keeps.{wf-answered, requested-wf}
 use Rattle.rules.proofs.Nodes.{at-same, at-other, put-used, put-was}
-use Rattle.rules.proofs.Record.{WF, in-table, no-children}
+use Rattle.rules.proofs.Record.{WF, in-table}
 use Rattle.rules.proofs.Spare.{not-left, not-right}
 use Rattle.rules.proofs.States.{Stolen}
-use Rattle.rules.proofs.Store.{Swap}
 use Rattle.rules.proofs.Rooted.{rooted}
 use Rattle.rules.proofs.Tree.{Tree, leaf, fork}
 use Rattle.rules.proofs.Expand.{Among, parent, left, right, other, Slots, next, split-slots}
@@ -79,7 +77,7 @@ root-lists l bs a b h e f =
 -- ---- one node changes: own, advance, mark
 
 module _ (l : Ledger) (bs cs : List Batch) (n : ℕ) (y : Node) (h : Whole l bs) (u : InUse l n)
-    (good : WF (put l n y)) (sw : Swap (at l n) y) (forward : positionOf (at l n) ≤ positionOf y)
+    (good : WF (put l n y)) (kept : Kept (at l n) y)
     (here : grantedFrom cs n ≡ grantedFrom bs n ++ sheets (positionOf (at l n)) (positionOf y))
     (there : (m : ℕ) → m ≢ n → grantedFrom cs m ≡ grantedFrom bs m) where
   same : at (put l n y) n ≡ y
@@ -89,8 +87,8 @@ module _ (l : Ledger) (bs cs : List Batch) (n : ℕ) (y : Node) (h : Whole l bs)
       → grantedFrom cs m ≡ sheets (at (put l n y) m .start) (positionOf (at (put l n y) m))
   stored-given m v (yes e) =
       rw
-      (e, same, here, h .given n u, sw .start)
-      (sheets-join _ _ _ (h .wf .alone n u .low) forward)
+      (e, same, here, h .given n u, kept .start)
+      (sheets-join _ _ _ (h .wf .alone n u .low) (kept .forward (h .wf .alone n u .high)))
   stored-given m v (no ne) = rw (at-other l n y (u .low) m (v .low) ne, there m ne) (h .given m v)
 
   pub stored-whole : Whole (put l n y) cs
@@ -133,72 +131,49 @@ module _ (l : Ledger) (bs : List Batch) (n : ℕ) (h : Whole l bs) (u : InUse l 
 
 -- ---- any request
 
-module _ (l : Ledger) (bs : List Batch) (r : Request) (h : Whole l bs) (asked : Asked (l .teams) (l .used) r) where
-  abbrev n : ℕ
-  n = nodeIn r
+-- no batch, and the position stays
+still-whole : (l : Ledger) (bs : List Batch) (n : ℕ) (y : Node) → Whole l bs → InUse l n → WF (put l n y) → Kept (at l n) y
+    → positionOf y ≡ positionOf (at l n)
+    → Whole (put l n y) bs
+still-whole l bs n y h u good kept e =
+    stored-whole l bs bs n y h u good kept (rw (e, sheets-none, append-nil)) (λ m ne. refl)
 
-  -- no batch, and the position stays
-  still : (y : Node) → positionOf y ≡ positionOf (at l n)
-      → grantedFrom bs n ≡ grantedFrom bs n ++ sheets (positionOf (at l n)) (positionOf y)
-  still y e = rw (e, sheets-none, append-nil)
-
-  still-whole : (y : Node) → WF (put l n y) → Swap (at l n) y → positionOf y ≡ positionOf (at l n) → Whole (put l n y) bs
-  still-whole y good sw e =
-      stored-whole l bs bs n y h (in-use l r asked) good sw (omega arith) (still y e) (λ m ne. refl)
-
-  swap-leaf : (y : Node) → at l n .left ≡ 0 → y .start ≡ at l n .start → y .until ≡ at l n .until → y .left ≡ at l n .left
-      → Swap (at l n) y
-  swap-leaf y e a b c = record { start = a; until = b; left = c; still = λ some. absurd (omega arith) }
-
-  moved-whole : Advancing (at l n) r
-      → WF (put l n (moved (at l n) (pos (batchEnd (at l n) r))))
-      → Whole (put l n (moved (at l n) (pos (batchEnd (at l n) r)))) (batchIn r (ranged (positionOf (at l n)) (batchEnd (at l n) r)) ∷ bs)
-  moved-whole f good =
-      stored-whole
-      l
-      bs
-      (b ∷ bs)
-      n
-      y
-      h
-      (in-use l r asked)
-      good
-      (swap-leaf y (no-children l (h .wf) n (in-use l r asked) (f .here .plain)) refl refl refl)
-      (omega (arith, f .end, h .wf .alone n (in-use l r asked) .high))
-      (granted-here bs b n refl)
-      (λ m ne. granted-other bs b m (λ e. ne (sym e)))
-    where
-      y : Node
-      y = moved (at l n) (pos (batchEnd (at l n) r))
-
-      b : Batch
-      b = batchIn r (ranged (positionOf (at l n)) (batchEnd (at l n) r))
+-- a batch, up to which the position moves
+moved-whole : (l : Ledger) (bs : List Batch) (r : Request) → Whole l bs → Asked (l .teams) (l .used) r → Advancing (at l (nodeIn r)) r
+    → WF (put l (nodeIn r) (moved (at l (nodeIn r)) (pos (batchEnd (at l (nodeIn r)) r))))
+    → Whole (put l (nodeIn r) (moved (at l (nodeIn r)) (pos (batchEnd (at l (nodeIn r)) r)))) (batchIn r (ranged (positionOf (at l (nodeIn r))) (batchEnd (at l (nodeIn r)) r)) ∷ bs)
+moved-whole l bs r h q f good =
+    let x = at l (nodeIn r) in
+    let b = batchIn r (ranged (positionOf x) (batchEnd x r)) in
+    stored-whole
+    l
+    bs
+    (b ∷ bs)
+    (nodeIn r)
+    (moved x (pos (batchEnd x r)))
+    h
+    (in-use l r q)
+    good
+    (claim-kept x r f)
+    (granted-here bs b (nodeIn r) refl)
+    (λ m ne. granted-other bs b m (λ e. ne (sym e)))
 
 -- the facts of a change, with what the answer grants
-answers-whole : {l : Ledger} {bs : List Batch} {r : Request} {a : Answered} → Whole l bs → WF (a .ledger) → Answers l r a
+effect-whole : {l : Ledger} {bs : List Batch} {r : Request} {a : Answered} → Whole l bs → WF (a .ledger) → Effect l r a
     → Whole (a .ledger) (batchOf r (a .answer) ++ bs)
-answers-whole {l} {bs} {r} h good (refuses ne) = rw (no-batch r (refusing (view l (nodeIn r)) (refusal (view l (nodeIn r)) r)) (λ e. ne)) h
-answers-whole {l} {bs} {r} h good (owns k q f) =
-    rw
-    (no-batch r _ (λ e. absurd (omega arith)))
-    (still-whole l bs r h q (owned (at l (nodeIn r)) (natOf (r .team))) good (record { start = refl; until = refl; left = refl; still = λ some. refl }) refl)
-answers-whole {l} {bs} {r} h good (advances k q f) =
+effect-whole {r = r} h good (rests {a = a} q) = rw (no-batch r a (q .no-claim)) h
+effect-whole {l} {bs} {r} h good (stores {a = a} y q u kept e) =
+    rw (no-batch r a (q .no-claim)) (still-whole l bs (nodeIn r) y h u good kept e)
+effect-whole {l} {bs} {r} h good (claims is q f) =
     let x = at l (nodeIn r) in
-    rw (one-batch r (ranged (positionOf x) (batchEnd x r)) k refl) (moved-whole l bs r h q f good)
-answers-whole {l} {bs} {r} h good (marks k q f) =
-    rw
-    (no-batch r _ (λ e. absurd (omega arith)))
-    (still-whole l bs r h q (moved (at l (nodeIn r)) (negsuc (positionOf (at l (nodeIn r))))) good (swap-leaf l bs r h q _ (no-children l (h .wf) (nodeIn r) (in-use l r q) (f .here .plain)) refl refl refl) refl)
-answers-whole {l} {bs} {r} h good (expands k q f) =
-    rw
-    (no-batch r _ (λ e. absurd (omega arith)))
-    (split-whole l bs (nodeIn r) h (in-use l r q) f good)
-answers-whole {l} {bs} {r} h good (looks k q) = rw (no-batch r _ (λ e. absurd (omega arith))) h
+    rw (one-batch r (ranged (positionOf x) (batchEnd x r)) is refl) (moved-whole l bs r h q f good)
+effect-whole {l} {bs} {r} h good (splits is q f) =
+    rw (no-batch r _ (λ e. absurd (omega arith))) (split-whole l bs (nodeIn r) h (in-use l r q) f good)
 
 pub requested-whole : (l : Ledger) (bs : List Batch) (r : Request) → Whole l bs
     → Whole (requested l r .ledger) (batchOf r (requested l r .answer) ++ bs)
 requested-whole l bs r h =
-    rw (requested-wf l r (h .wf)) (answers-whole h (wf-answers (h .wf) (answers l r)) (answers l r))
+    rw (requested-wf l r (h .wf)) (effect-whole h (wf-answered l r (h .wf)) (effect-of l r))
 
 -- any list of requests
 pub run-whole : (l : Ledger) (bs : List Batch) (rs : List Request) → Whole l bs → Whole (afterAll l rs) (batches l rs ++ bs)

@@ -2,7 +2,7 @@
 -- `proofs/Sheet40.antt` and `proofs/Once.antt` prove them. All but the last hold of every ledger whose table has its slots, and so of all
 -- that requests reach from an opening.
 use mathlib.Core.Path.{_≡_}
-use mathlib.Core.Logic.{_⊎_}
+use mathlib.Core.Logic.{_≢_, _⊎_}
 use mathlib.Core.Bool.{true, false}
 use mathlib.Core.List.{List, _∷_, _++_}
 use Prim.Native.Nat.{ℕ, _+_, _≤_, _<_}
@@ -17,7 +17,8 @@ use Rattle.rules.specs.Asks.{ADVANCE, MARK, EXPAND}
 use Rattle.laws.specs.Listing.{unclaimedOf, afterAll, reached, batches, timesIn}
 use Rattle.rules.specs.Nodes.{marked, positionOf, middle}
 use Rattle.rules.specs.Opening.{opening}
-use Rattle.rules.specs.Requests.{nodeIn, requested}
+use Rattle.rules.specs.LateClaim.{lateCode}
+use Rattle.rules.specs.Requests.{refused, nodeIn, requested}
 use Rattle.rules.specs.Table.{at}
 use Rattle.rules.specs.WellFormed.{Sized}
 
@@ -57,6 +58,16 @@ pub record AtProgress (x : Node) (r : Request) (a : Answer) : Type 0 where
 
 abbrev pub ClaimStands : Type 0
 ClaimStands = (l : Ledger) (r : Request) → ClaimGranted l r → AtProgress (at l (nodeIn r)) r (requested l r .answer)
+
+-- A claim that would have been granted on an old reading of the ledger comes late if the progress of its node is no longer the position
+-- that it names, whatever was requested meanwhile. It changes nothing, and gets 9 of a node that was marked, 6 of one that was completed,
+-- and else 10.
+abbrev pub LateClaimRefused : Type 0
+LateClaimRefused =
+    (l : Ledger) (claim : Request) (between : List Request) → Sized l → ClaimGranted l claim
+    → let now = afterAll l between in
+    claim .position ≢ at now (nodeIn claim) .progress
+    → requested now claim ≡ record { ledger = now; answer = refused (lateCode (at now (nodeIn claim))) }
 
 -- ---- her second step: a mark is read back exactly, and is final
 

@@ -1,10 +1,11 @@
 -- The line of a step: it tells just what its request was granted, and its numbers are within the limits.
 use mathlib.Core.Path.{_≡_, refl, sym, _∙_}
+use mathlib.Core.Logic.{_≢_}
 use mathlib.Core.Bool.{Bool, true, false, cond, and-false}
 use mathlib.Core.List.{List, [], _∷_, _++_, append-assoc, append-nil}
 use Prim.Native.Nat.{ℕ, suc, _≤_, _<_, min}
 use native.Mathlib.Omega.{arith}
-use lib.Dec.{eqb}
+use native.Mathlib.Decide.{ℕ-discrete}
 use lib.IntN.{ℤ, pos}
 use lib.ListN.{length, getD, length-append}
 use borrow.Author.Tests.{ne-eqb}
@@ -16,15 +17,17 @@ use Rattle.rules.specs.declared.Opening.{Opening}
 use Rattle.rules.specs.declared.Request.{Request}
 use Rattle.rules.specs.declared.Answer.{Answer}
 use Rattle.rules.specs.declared.Answered.{Answered}
-use Rattle.rules.specs.Asks.{OWN, ADVANCE, MARK, EXPAND, LOOK}
+use Rattle.rules.specs.Asks.{ADVANCE, EXPAND}
 use Rattle.rules.specs.Limits.{opens}
 use Rattle.laws.specs.Listing.{Batch, isClaim, batchOf, batches, afterAll}
 use Rattle.rules.specs.Nodes.{positionOf, middle}
 use Rattle.rules.specs.Requests.{nodeIn, batchEnd, requested, refused}
 use Rattle.rules.specs.Table.{nextPair, at}
 use Rattle.rules.proofs.Spare.{pair-room}
-use Rattle.rules.proofs.Granted.{Asked, in-use, Answers, refuses, owns, advances, marks, expands, looks, answers}
+use Rattle.rules.proofs.Effects.{Quiet, Effect, rests, stores, claims, splits, effect-of}
+use Rattle.rules.proofs.Granted.{Asked, in-use}
 use Rattle.rules.proofs.Keeps.{requested-wf}
+use Rattle.laws.proofs.Batches.{no-batch}
 use Rattle.laws.proofs.Runs.{after-append}
 use Rattle.rules.proofs.Range.{within-range}
 use Rattle.rules.proofs.Record.{WF, used-high}
@@ -37,7 +40,7 @@ use Rattle.steps.specs.Run.{Run, stepTeam, runSteps}
 use Rattle.steps.proofs.Turns.{asks-team}
 use Rattle.line_rules.specs.Line.{Line, batchLine, splitLine, anyNegative}
 use Rattle.line_rules.proofs.Demands.{at-most-40}
-use Rattle.listing_rules.specs.Steps.{noteOf, stepLine, runWith, runFrom, startOf, notes, runLines}
+use Rattle.listing_rules.specs.Steps.{grants, noteOf, stepLine, runWith, runFrom, startOf, notes, runLines}
 use Rattle.listing_rules.specs.Grants.{claimsIn, asksIn, asked}
 use Rattle.listing_rules.proofs.Lines.{AllSane, none, more, sane-append}
 use Rattle.listing_rules.proofs.Runs.{Fits, here-of, step-fits}
@@ -76,9 +79,16 @@ split-noted n left mid hn hl =
 
 -- ---- a request
 
-silent : (team : ℤ) (kind node : ℕ) (a : Answer) → eqb kind ADVANCE ≡ false → eqb kind EXPAND ≡ false → noteOf team kind node a ≡ []
+silent : (team : ℤ) (kind node : ℕ) (a : Answer) → grants ADVANCE kind a ≡ false → grants EXPAND kind a ≡ false → noteOf team kind node a ≡ []
 unfolding noteOf
 silent team kind node a e f = rw (e, f)
+
+not-granted : (wanted kind : ℕ) (a : Answer) → (kind ≡ wanted → a .code ≢ 0) → grants wanted kind a ≡ false
+not-granted wanted kind a h = go (ℕ-discrete kind wanted)
+  where
+    go : Dec (kind ≡ wanted) → grants wanted kind a ≡ false
+    go (yes e) = rw (ne-eqb (a .code) 0 (h e), and-false)
+    go (no ne) = rw (ne-eqb kind wanted ne)
 
 module _ (l : Ledger) (w : WF l) (q : Request) (team : ℤ) (is : natOf team ≡ natOf (q .team)) (positive : team ≡ pos (natOf team)) where
   abbrev n : ℕ
@@ -88,28 +98,28 @@ module _ (l : Ledger) (w : WF l) (q : Request) (team : ℤ) (is : natOf team ≡
   Told a = Noted 1 (noteOf team (natOf (q .kind)) n (a .answer)) (batchOf q (a .answer))
 
   -- no claim, and no line
-  other : (a : Answer) (k : ℕ) → natOf (q .kind) ≡ k → eqb k ADVANCE ≡ false → eqb k EXPAND ≡ false → Noted 1 (noteOf team (natOf (q .kind)) n a) (batchOf q a)
-  unfolding batchOf isClaim
-  other a k e two four = rw (e, silent team k n a two four, two) (nothing-noted 1)
+  quiet-noted : (a : Answer) → Quiet q a → Noted 1 (noteOf team (natOf (q .kind)) n a) (batchOf q a)
+  quiet-noted a h =
+      rw
+      (silent team (natOf (q .kind)) n a (not-granted ADVANCE (natOf (q .kind)) a (h .no-claim)) (not-granted EXPAND (natOf (q .kind)) a (h .no-split)), no-batch q a (h .no-claim))
+      (nothing-noted 1)
 
   small : Asked (l .teams) (l .used) q → at l n .until ≤ 2147483647
   small a = omega (arith, within-range l w n (in-use l q a) .high, w .limits .until-limit)
 
-  noted : {a : Answered} → Answers l q a → Told a
-  noted (refuses ne) = unfold noteOf batchOf isClaim in (simp (ne-eqb _ 0 ne, and-false) (nothing-noted 1))
-  noted (owns k a f) = other _ OWN k refl refl
-  noted (advances k a f) =
+  noted : {a : Answered} → Effect l q a → Told a
+  noted (rests h) = quiet-noted _ h
+  noted (stores y h u kept e) = quiet-noted _ h
+  noted (claims k a f) =
       unfold noteOf batchOf isClaim in
       (rw (k, ← is, positive)
       (batch-noted (natOf team) n (positionOf (at l n)) (batchEnd (at l n) q) (omega (arith, a .team .high, w .limits .teams-high)) (omega (arith, a .node .high, used-high l w)) (omega (arith, w .alone n (in-use l q a) .high, small a)) (omega (arith, f .end, small a))))
-  noted (marks k a f) = other _ MARK k refl refl
-  noted (expands k a f) =
+  noted (splits k a f) =
       unfold noteOf batchOf isClaim in
       (rw k (split-noted n (nextPair l) (middle (at l n)) (omega (arith, a .node .high, used-high l w)) (omega (arith, pair-room l w n (in-use l q a) f, w .limits .room-high))))
-  noted (looks k a) = other _ LOOK k refl refl
 
   request-noted : Told (requested l q)
-  request-noted = rw (requested-wf l q w) (noted (answers l q))
+  request-noted = rw (requested-wf l q w) (noted (effect-of l q))
 
 -- ---- a step
 

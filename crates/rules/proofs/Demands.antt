@@ -16,7 +16,8 @@ use Rattle.rules.specs.Requests.{view, nodeIn, answered, requested}
 use Rattle.rules.specs.States.{stateOf}
 use Rattle.rules.specs.Table.{at}
 use Rattle.rules.proofs.Spare.{left-blank, right-blank, pair-room}
-use Rattle.rules.proofs.Granted.{not-yet, in-use, Answers, refuses, owns, advances, marks, expands, looks, late-facts, answers}
+use Rattle.rules.proofs.Effects.{becomes-of}
+use Rattle.rules.proofs.Granted.{not-yet, in-use, late-facts, answers, Settled, denied, cleared, settled}
 use Rattle.rules.proofs.Keeps.{requested-good, requested-wf, refused-keeps}
 use Rattle.rules.proofs.Moves.{moves, others, none}
 use Rattle.rules.proofs.Opens.{begun, opened-wf}
@@ -35,20 +36,16 @@ pub refusals-change-nothing : RefusalsChangeNothing
 refusals-change-nothing = refused-keeps
 
 -- no grant has the code 16, and the children of a parent are where the ledger has them
-told : {l : Ledger} {r : Request} {a : Answered} → WF l → Answers l r a → a .answer .code ≡ 16 → Told l (nodeIn r) (a .answer)
+told : {l : Ledger} {r : Request} {a : Answered} → WF l → Settled l r a → a .answer .code ≡ 16 → Told l (nodeIn r) (a .answer)
 unfolding view
-told {l} {r} w (refuses ne) e =
+told {l} {r} w (denied ne) e =
     let late = late-facts (view l (nodeIn r)) r e in
     let p = w .pair (nodeIn r) (in-use l r (late .asked)) (late .parent) in
     rw e (record { left = refl; left-until = p .left-until; right-start = p .right-start })
-told w (owns k q f) e = absurd (omega arith)
-told w (advances k q f) e = absurd (omega arith)
-told w (marks k q f) e = absurd (omega arith)
-told w (expands k q f) e = absurd (omega arith)
-told w (looks k q) e = absurd (omega arith)
+told w (cleared z) e = absurd (omega arith)
 
 pub late-splitter-told : LateSplitterTold
-late-splitter-told l r sound = let w = rules l sound in rw (requested-wf l r w) (told w (answers l r))
+late-splitter-told l r sound = let w = rules l sound in rw (requested-wf l r w) (told w (settled (answers l r)))
 
 pub room-for-every-split : RoomForEverySplit
 room-for-every-split l n sound u s =
@@ -83,7 +80,7 @@ follow l r w =
     rw
     (requested-wf l r w)
     (record {
-      others = others w (answers l r);
+      others = others w (becomes-of l r);
       moves = step;
       none = none l (answered l r .ledger) _ (leads (stateOf (at l (nodeIn r))) (natOf (r .kind))) step;
     })

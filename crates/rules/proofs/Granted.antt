@@ -73,33 +73,32 @@ pub record Marking (x : Node) (r : Request) (load room : ℕ) : Type 0 where
 abbrev pub after : Ledger → ℕ → Node → ℕ → Node → Node → Ledger
 after l n x c a b = grown (put (put (put l n x) c a) (c + 1) b) c
 
-pub data Answers (l : Ledger) (r : Request) : Answered → Type 0 where
-  refuses : refusal (view l (nodeIn r)) r ≢ 0
-      → Answers l r (record { ledger = l; answer = refusing (view l (nodeIn r)) (refusal (view l (nodeIn r)) r) })
-  owns : natOf (r .kind) ≡ OWN → Asked (l .teams) (l .used) r → Owning (at l (nodeIn r))
-      → Answers l r (record {
+-- of a request of a kind: refused, or granted as its kind is
+pub data Answers (l : Ledger) (r : Request) : ℕ → Answered → Type 0 where
+  refuses : {k : ℕ} → refusal (view l (nodeIn r)) r ≢ 0
+      → Answers l r k (record { ledger = l; answer = refusing (view l (nodeIn r)) (refusal (view l (nodeIn r)) r) })
+  owns : Asked (l .teams) (l .used) r → Owning (at l (nodeIn r))
+      → Answers l r OWN (record {
         ledger = put l (nodeIn r) (owned (at l (nodeIn r)) (natOf (r .team)));
         answer = ranged (at l (nodeIn r) .start) (at l (nodeIn r) .until);
       })
-  advances : natOf (r .kind) ≡ ADVANCE → Asked (l .teams) (l .used) r → Advancing (at l (nodeIn r)) r
-      → Answers l r (record {
+  advances : Asked (l .teams) (l .used) r → Advancing (at l (nodeIn r)) r
+      → Answers l r ADVANCE (record {
         ledger = put l (nodeIn r) (moved (at l (nodeIn r)) (pos (batchEnd (at l (nodeIn r)) r)));
         answer = ranged (positionOf (at l (nodeIn r))) (batchEnd (at l (nodeIn r)) r);
       })
-  marks : natOf (r .kind) ≡ MARK → Asked (l .teams) (l .used) r
-      → Marking (at l (nodeIn r)) r (l .used + 2 * stolenIn l) (l .room)
-      → Answers l r (record {
+  marks : Asked (l .teams) (l .used) r → Marking (at l (nodeIn r)) r (l .used + 2 * stolenIn l) (l .room)
+      → Answers l r MARK (record {
         ledger = put l (nodeIn r) (moved (at l (nodeIn r)) (negsuc (positionOf (at l (nodeIn r)))));
         answer = ranged (positionOf (at l (nodeIn r))) (at l (nodeIn r) .until);
       })
-  expands : natOf (r .kind) ≡ EXPAND → Asked (l .teams) (l .used) r → Stolen (at l (nodeIn r))
-      → Answers l r (record {
+  expands : Asked (l .teams) (l .used) r → Stolen (at l (nodeIn r))
+      → Answers l r EXPAND (record {
         ledger =
             after l (nodeIn r) (parted (at l (nodeIn r)) (nextPair l)) (nextPair l) (leftPart (at l (nodeIn r))) (rightPart (at l (nodeIn r)));
         answer = split (nextPair l) (middle (at l (nodeIn r)));
       })
-  looks : natOf (r .kind) ≡ LOOK → Asked (l .teams) (l .used) r
-      → Answers l r (record { ledger = l; answer = seen (at l (nodeIn r)) })
+  looks : Asked (l .teams) (l .used) r → Answers l r LOOK (record { ledger = l; answer = seen (at l (nodeIn r)) })
 
 -- ---- reading the lists of tests back
 
@@ -236,45 +235,44 @@ module _ (l : Ledger) (r : Request) where
     code : kindCode v r ≡ 0
     code = asked-facts v r clear .1
 
-    given-own : natOf (r .kind) ≡ OWN → Answers l r given
+    given-own : natOf (r .kind) ≡ OWN → Answers l r (natOf (r .kind)) given
     unfolding given granted changed owning view
-    given-own e = let f = own-facts x (unfold kindCode in (rw e at code)) in rw e (owns e asked f)
+    given-own e = let f = own-facts x (unfold kindCode in (rw e at code)) in rw e (owns asked f)
 
     -- a batch from the position that stands
-    advances-from : (p : ℕ) → p ≡ positionOf x → natOf (r .kind) ≡ ADVANCE → Advancing x r
-        → Answers l r (record { ledger = put l n (moved x (pos (batchEnd x r))); answer = ranged p (batchEnd x r) })
-    advances-from p is e f = rw is (advances e asked f)
+    advances-from : (p : ℕ) → p ≡ positionOf x → Advancing x r
+        → Answers l r ADVANCE (record { ledger = put l n (moved x (pos (batchEnd x r))); answer = ranged p (batchEnd x r) })
+    advances-from p is f = rw is (advances asked f)
 
-    given-advance : natOf (r .kind) ≡ ADVANCE → Answers l r given
+    given-advance : natOf (r .kind) ≡ ADVANCE → Answers l r (natOf (r .kind)) given
     unfolding given granted changed advancing view
     given-advance e =
         let f = advance-facts x r (unfold kindCode in (rw e at code)) in
-        rw e (advances-from _ (f .here .position-is) e f)
+        rw e (advances-from _ (f .here .position-is) f)
 
     -- a progress that is the position's mark
-    marks-as : (p : ℤ) → p ≡ negsuc (positionOf x) → natOf (r .kind) ≡ MARK
-        → Marking x r (l .used + 2 * stolenIn l) (l .room)
-        → Answers l r (record { ledger = put l n (moved x p); answer = ranged (positionOf x) (x .until) })
-    marks-as p is e f = rw is (marks e asked f)
+    marks-as : (p : ℤ) → p ≡ negsuc (positionOf x) → Marking x r (l .used + 2 * stolenIn l) (l .room)
+        → Answers l r MARK (record { ledger = put l n (moved x p); answer = ranged (positionOf x) (x .until) })
+    marks-as p is f = rw is (marks asked f)
 
-    given-mark : natOf (r .kind) ≡ MARK → Answers l r given
+    given-mark : natOf (r .kind) ≡ MARK → Answers l r (natOf (r .kind)) given
     unfolding given granted changed marking view
     given-mark e =
         let f = mark-facts v r (asked .team .is) (unfold kindCode in (rw e at code)) in
-        rw (e, f .here .position-is) (marks-as _ (f .here .mark-is) e f)
+        rw (e, f .here .position-is) (marks-as _ (f .here .mark-is) f)
 
-    given-expand : natOf (r .kind) ≡ EXPAND → Answers l r given
+    given-expand : natOf (r .kind) ≡ EXPAND → Answers l r (natOf (r .kind)) given
     unfolding given granted changed expanding view
-    given-expand e = let f = expand-facts (v .node) (unfold kindCode in (rw e at code)) in rw e (expands e asked f)
+    given-expand e = let f = expand-facts (v .node) (unfold kindCode in (rw e at code)) in rw e (expands asked f)
 
-    given-look : natOf (r .kind) ≡ LOOK → Answers l r given
+    given-look : natOf (r .kind) ≡ LOOK → Answers l r (natOf (r .kind)) given
     unfolding given granted changed looking view
-    given-look e = rw e (looks e asked)
+    given-look e = rw e (looks asked)
 
-    given-is : Answers l r given
+    given-is : Answers l r (natOf (r .kind)) given
     given-is = go (kind-of (natOf (r .kind)) (asked .kind .low) (asked .kind .high))
       where
-        go : Kind (natOf (r .kind)) → Answers l r given
+        go : Kind (natOf (r .kind)) → Answers l r (natOf (r .kind)) given
         go (own e) = given-own e
         go (advance e) = given-advance e
         go (mark e) = given-mark e
@@ -289,7 +287,7 @@ pub decided-refused : (v : View) (r : Request) → refusal v r ≢ 0 → decided
 unfolding decided
 decided-refused v r ne = rw (ne-eqb (refusal v r) 0 ne)
 
-pub answers : (l : Ledger) (r : Request) → Answers l r (answered l r)
+pub answers : (l : Ledger) (r : Request) → Answers l r (natOf (r .kind)) (answered l r)
 unfolding answered given
 answers l r = go (ℕ-discrete (refusal v r) 0)
   where
@@ -297,6 +295,20 @@ answers l r = go (ℕ-discrete (refusal v r) 0)
     v = view l (nodeIn r)
 
     go : Dec (refusal v r ≡ 0)
-        → Answers l r (record { ledger = changed l (nodeIn r) (decided v r .change); answer = decided v r .answer })
+        → Answers l r (natOf (r .kind)) (record { ledger = changed l (nodeIn r) (decided v r .change); answer = decided v r .answer })
     go (yes e) = rw (decided-granted v r e) (given-is l r e)
     go (no ne) = rw (decided-refused v r ne) (unfold changed in (refuses ne))
+
+-- refused, or granted with code 0
+pub data Settled (l : Ledger) (r : Request) : Answered → Type 0 where
+  denied : refusal (view l (nodeIn r)) r ≢ 0
+      → Settled l r (record { ledger = l; answer = refusing (view l (nodeIn r)) (refusal (view l (nodeIn r)) r) })
+  cleared : {a : Answered} → a .answer .code ≡ 0 → Settled l r a
+
+pub settled : {l : Ledger} {r : Request} {k : ℕ} {a : Answered} → Answers l r k a → Settled l r a
+settled (refuses ne) = denied ne
+settled (owns q f) = cleared refl
+settled (advances q f) = cleared refl
+settled (marks q f) = cleared refl
+settled (expands q f) = cleared refl
+settled (looks q) = cleared refl

@@ -17,7 +17,7 @@ use Rattle.rules.specs.WellFormed.{wellFormed}
 use Rattle.rules.specs.Requests.{refused, refusing, batchEnd, nodeIn, view, answered, requested}
 use Rattle.rules.proofs.Record.{WF, Alone, rules-back, no-children}
 use Rattle.rules.proofs.States.{owned-same, unmarked-none, at-most-one}
-use Rattle.rules.proofs.Granted.{Asked, in-use, Owning, Advancing, Marking, Answers, refuses, owns, advances, marks, expands, looks, answers}
+use Rattle.rules.proofs.Granted.{Asked, in-use, Owning, Advancing, Marking, Answers, refuses, owns, advances, marks, expands, looks, answers, Settled, denied, cleared, settled}
 use Rattle.rules.proofs.Store.{wf-store}
 use Rattle.rules.proofs.Expand.{wf-split}
 
@@ -105,14 +105,13 @@ module _ (l : Ledger) (w : WF l) (r : Request) (asked : Asked (l .teams) (l .use
       y : Node
       y = moved x (negsuc (positionOf x))
 
-pub wf-answers : {l : Ledger} {r : Request} {a : Answered} → WF l → Answers l r a → WF (a .ledger)
+pub wf-answers : {l : Ledger} {r : Request} {k : ℕ} {a : Answered} → WF l → Answers l r k a → WF (a .ledger)
 wf-answers w (refuses ne) = w
-wf-answers {l} {r} w (owns k q f) = wf-owned l w r q f
-wf-answers {l} {r} w (advances k q f) = wf-advanced l w r q f
-wf-answers {l} {r} w (marks k q f) = wf-marked l w r q f
-wf-answers {l} {r} w (expands k q f) =
-    wf-split l w (nodeIn r) (in-use l r q) f
-wf-answers w (looks k q) = w
+wf-answers {l} {r} w (owns q f) = wf-owned l w r q f
+wf-answers {l} {r} w (advances q f) = wf-advanced l w r q f
+wf-answers {l} {r} w (marks q f) = wf-marked l w r q f
+wf-answers {l} {r} w (expands q f) = wf-split l w (nodeIn r) (in-use l r q) f
+wf-answers w (looks q) = w
 
 pub wf-answered : (l : Ledger) (r : Request) → WF l → WF (answered l r .ledger)
 wf-answered l r w = wf-answers w (answers l r)
@@ -125,14 +124,10 @@ requested-wf l r w = rw (rules-back l w)
 pub requested-good : (l : Ledger) (r : Request) → WF l → WF (requested l r .ledger)
 requested-good l r w = rw (requested-wf l r w) (wf-answered l r w)
 
-answers-keep : {l : Ledger} {r : Request} {a : Answered} → Answers l r a → a .answer .code ≢ 0
+settled-keeps : {l : Ledger} {r : Request} {a : Answered} → Settled l r a → a .answer .code ≢ 0
     → a ≡ record { ledger = l; answer = refusing (view l (nodeIn r)) (a .answer .code) }
-answers-keep (refuses h) ne = refl
-answers-keep (owns k q f) ne = absurd (ne refl)
-answers-keep (advances k q f) ne = absurd (ne refl)
-answers-keep (marks k q f) ne = absurd (ne refl)
-answers-keep (expands k q f) ne = absurd (ne refl)
-answers-keep (looks k q) ne = absurd (ne refl)
+settled-keeps (denied h) ne = refl
+settled-keeps (cleared z) ne = absurd (ne z)
 
 pub refused-keeps : (l : Ledger) (r : Request) → requested l r .answer .code ≢ 0
     → requested l r ≡ record { ledger = l; answer = refusing (view l (nodeIn r)) (requested l r .answer .code) }
@@ -143,5 +138,5 @@ refused-keeps l r = go (wellFormed l)
     given b = cond b (answered l r) (record { ledger = l; answer = refused 1 })
 
     go : (b : Bool) → given b .answer .code ≢ 0 → given b ≡ record { ledger = l; answer = refusing (view l (nodeIn r)) (given b .answer .code) }
-    go true ne = answers-keep (answers l r) ne
+    go true ne = settled-keeps (settled (answers l r)) ne
     go false ne = refl

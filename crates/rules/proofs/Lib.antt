@@ -9,6 +9,7 @@ pub mod Facts
 pub mod Record
 pub mod Tests
 pub mod Granted
+pub mod Effects
 pub mod Spare
 pub mod Split
 pub mod Store

@@ -18,6 +18,7 @@ use Rattle.rules.specs.Nodes.{owned, moved, parted, marked, positionOf}
 use Rattle.rules.specs.Requests.{batchEnd, nodeIn}
 use Rattle.rules.specs.States.{AVAILABLE, OWNED, COMPLETED, STOLEN, EXPANDED, completed, stateOf}
 use Rattle.rules.specs.Table.{InUse, at, put, nextPair, stolenIn}
+use Rattle.rules.proofs.Effects.{Becomes, same, stored as put-there, forked}
 use Rattle.rules.proofs.Granted.{Asked, in-use, Owning, Advancing, Marking, Answers, refuses, owns, advances, marks, expands, looks}
 use Rattle.rules.proofs.Expand.{split-slots, stays}
 use Rattle.rules.proofs.Nodes.{at-same, at-other}
@@ -105,34 +106,27 @@ module _ (l : Ledger) (w : WF l) (r : Request) (asked : Asked (l .teams) (l .use
       (expanded-is y (record { mark = e .mark; parent = omega (arith, spare l w .past) }))
       refl
 
-  stored : (y : Node) (k : ℕ) → natOf (r .kind) ≡ k → Leads x k y → Leads x (natOf (r .kind)) (at (put l n y) n)
-  stored y k e h = rw (e, at-same l n y (asked .node .low) (in-table l w n (in-use l r asked))) h
+  stored : (y : Node) (k : ℕ) → Leads x k y → Leads x k (at (put l n y) n)
+  stored y k h = rw (at-same l n y (asked .node .low) (in-table l w n (in-use l r asked))) h
 
 -- ---- any request
 
-pub moves : {l : Ledger} {r : Request} {a : Answered} → WF l → Answers l r a
-    → (a .ledger ≡ l) ⊎ Leads (at l (nodeIn r)) (natOf (r .kind)) (at (a .ledger) (nodeIn r))
+pub moves : {l : Ledger} {r : Request} {k : ℕ} {a : Answered} → WF l → Answers l r k a
+    → (a .ledger ≡ l) ⊎ Leads (at l (nodeIn r)) k (at (a .ledger) (nodeIn r))
 moves w (refuses h) = inl refl
-moves {l} {r} w (owns k q f) = inr (stored l w r q (owned (at l (nodeIn r)) (natOf (r .team))) OWN k (own-leads l w r q f))
-moves {l} {r} w (advances k q f) =
-    inr (stored l w r q (moved (at l (nodeIn r)) (pos (batchEnd (at l (nodeIn r)) r))) ADVANCE k (advance-leads l w r q f))
-moves {l} {r} w (marks k q f) =
-    inr (stored l w r q (moved (at l (nodeIn r)) (negsuc (positionOf (at l (nodeIn r))))) MARK k (mark-leads l w r q f))
-moves {l} {r} w (expands k q f) =
-    inr
-    (rw
-    (k, split-slots l w (nodeIn r) (in-use l r q) f .here)
-    (expand-leads l w r q f))
-moves w (looks k q) = inl refl
+moves {l} {r} w (owns q f) = inr (stored l w r q (owned (at l (nodeIn r)) (natOf (r .team))) OWN (own-leads l w r q f))
+moves {l} {r} w (advances q f) =
+    inr (stored l w r q (moved (at l (nodeIn r)) (pos (batchEnd (at l (nodeIn r)) r))) ADVANCE (advance-leads l w r q f))
+moves {l} {r} w (marks q f) =
+    inr (stored l w r q (moved (at l (nodeIn r)) (negsuc (positionOf (at l (nodeIn r))))) MARK (mark-leads l w r q f))
+moves {l} {r} w (expands q f) =
+    inr (rw (split-slots l w (nodeIn r) (in-use l r q) f .here) (expand-leads l w r q f))
+moves w (looks q) = inl refl
 
-pub others : {l : Ledger} {r : Request} {a : Answered} → WF l → Answers l r a
-    → (m : ℕ) → InUse l m → m ≢ nodeIn r → at (a .ledger) m ≡ at l m
-others w (refuses h) m u ne = refl
-others {l} {r} w (owns k q f) m u ne = at-other l (nodeIn r) _ (q .node .low) m (u .low) ne
-others {l} {r} w (advances k q f) m u ne = at-other l (nodeIn r) _ (q .node .low) m (u .low) ne
-others {l} {r} w (marks k q f) m u ne = at-other l (nodeIn r) _ (q .node .low) m (u .low) ne
-others {l} {r} w (expands k q f) m u ne = stays l w (nodeIn r) (in-use l r q) f m u ne
-others w (looks k q) m u ne = refl
+pub others : {l k : Ledger} {n : ℕ} → WF l → Becomes l n k → (m : ℕ) → InUse l m → m ≢ n → at k m ≡ at l m
+others w same m u ne = refl
+others {l} {n = n} w (put-there y v h) m u ne = at-other l n y (v .low) m (u .low) ne
+others {l} {n = n} w (forked v f) m u ne = stays l w n v f m u ne
 
 -- no state is one of none
 pub none : (l k : Ledger) (s : ℕ) (states : List ℕ) → (k ≡ l) ⊎ (isIn s states ≡ true) → states ≡ [] → k ≡ l

@@ -13,7 +13,7 @@ use Rattle.numbers.proofs.Laws.{within-made}
 use Rattle.rules.specs.declared.Ledger.{Ledger}
 use Rattle.rules.specs.declared.Request.{Request}
 use Rattle.rules.specs.declared.Answered.{Answered}
-use Rattle.rules.specs.Asks.{own, advance, mark, expand, look, lastKind}
+use Rattle.rules.specs.Asks.{OWN, ADVANCE, MARK, EXPAND, LOOK, lastKind, own, advance, mark, expand, look}
 use Rattle.rules.specs.Limits.{maxAmount}
 use Rattle.rules.specs.Nodes.{owned, moved, parted, marked, positionOf, middle, leftPart, rightPart}
 use Rattle.rules.specs.States.{AVAILABLE, STOLEN, EXPANDED, completed, stateOf}
@@ -81,9 +81,9 @@ module _ (l : Ledger) (w : WF l) (t n : ℕ) (tl : 1 ≤ t) (th : t ≤ l .teams
           let a = is-available (at l n) e in
           by-kind l q refl teamed (used u) ∙ rw (eq-eqb (at l n .owner) 0 (a .nobody), a .going)
 
-      go : {u : Answered} → Answers l q u → P u
+      go : {u : Answered} → Answers l q OWN u → P u
       go (refuses e) = lost _ e (λ u f. e (free u f))
-      go (owns k a f) =
+      go (owns a f) =
           took (record {
             here = in-use l q a;
             was =
@@ -93,10 +93,6 @@ module _ (l : Ledger) (w : WF l) (t n : ℕ) (tl : 1 ≤ t) (th : t ≤ l .teams
                   nobody = f .nobody;
                 };
           })
-      go (advances k a f) = absurd (omega arith)
-      go (marks k a f) = absurd (omega arith)
-      go (expands k a f) = absurd (omega arith)
-      go (looks k a) = absurd (omega arith)
 
   -- advance; code 9 tells that the node is marked
   pub record Claims (q : Request) : Type 0 where
@@ -127,13 +123,9 @@ module _ (l : Ledger) (w : WF l) (t n : ℕ) (tl : 1 ≤ t) (th : t ≤ l .teams
           (not (sameNumber p (at l n .progress)))
           (sym (by-kind l q refl teamed (used u)) ∙ e)
 
-      go : {u : Answered} → Answers l q u → P u
+      go : {u : Answered} → Answers l q ADVANCE u → P u
       go (refuses e) = lost _ e told
-      go (owns k a f) = absurd (omega arith)
-      go (advances k a f) = took (record { here = in-use l q a; facts = f })
-      go (marks k a f) = absurd (omega arith)
-      go (expands k a f) = absurd (omega arith)
-      go (looks k a) = absurd (omega arith)
+      go (advances a f) = took (record { here = in-use l q a; facts = f })
 
   -- mark; code 14 tells that the node is in use
   pub record Marks (q : Request) : Type 0 where
@@ -160,13 +152,9 @@ module _ (l : Ledger) (w : WF l) (t n : ℕ) (tl : 1 ≤ t) (th : t ≤ l .teams
           go (yes h) = h
           go (no h) = absurd (let z = no-node l q refl teamed (above (omega arith)) in omega arith)
 
-      go : {u : Answered} → Answers l q u → P u
+      go : {u : Answered} → Answers l q MARK u → P u
       go (refuses e) = lost _ e told
-      go (owns k a f) = absurd (omega arith)
-      go (advances k a f) = absurd (omega arith)
-      go (marks k a f) = took (record { here = in-use l q a; facts = f })
-      go (expands k a f) = absurd (omega arith)
-      go (looks k a) = absurd (omega arith)
+      go (marks a f) = took (record { here = in-use l q a; facts = f })
 
   -- expand; a STOLEN node is split, since there is always room
   pub record Splits : Type 0 where
@@ -210,15 +198,11 @@ module _ (l : Ledger) (w : WF l) (t n : ℕ) (tl : 1 ≤ t) (th : t ≤ l .teams
           let late = late-facts (view l n) q f in
           record { here = in-use l q (late .asked); some = late .parent }
 
-      go : {u : Answered} → Answers l q u → P u
+      go : {u : Answered} → Answers l q EXPAND u → P u
       go (refuses e) =
           lost _ (record { some = e; whole = λ u f. e (stolen u f); late = expanded; told = sixteen })
-      go (owns k a f) = absurd (omega arith)
-      go (advances k a f) = absurd (omega arith)
-      go (marks k a f) = absurd (omega arith)
-      go (expands k a f) =
+      go (expands a f) =
           took (record { here = in-use l q a; was = f })
-      go (looks k a) = absurd (omega arith)
 
   -- look: what stands there, or code 4
   pub by-look : (P : Answered → Type 0)
@@ -238,10 +222,6 @@ module _ (l : Ledger) (w : WF l) (t n : ℕ) (tl : 1 ≤ t) (th : t ≤ l .teams
       four true e z = absurd (z (by-kind l q refl teamed e))
       four false e z = no-node l q refl teamed e
 
-      go : {u : Answered} → Answers l q u → P u
+      go : {u : Answered} → Answers l q LOOK u → P u
       go (refuses e) = rw (four (within (pos n) 1 (l .used)) refl e) (none (unused e))
-      go (owns k a f) = absurd (omega arith)
-      go (advances k a f) = absurd (omega arith)
-      go (marks k a f) = absurd (omega arith)
-      go (expands k a f) = absurd (omega arith)
-      go (looks k a) = saw (in-use l q a)
+      go (looks a) = saw (in-use l q a)

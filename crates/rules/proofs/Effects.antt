@@ -1,0 +1,126 @@
+-- What a request does to the ledger, in as few cases as what follows from it needs.
+use mathlib.Core.Path.{_≡_, refl, sym, _∙_}
+use mathlib.Core.Logic.{_≢_}
+use mathlib.Core.Bool.{true, true≢false}
+use Prim.Native.Nat.{ℕ, _≤_}
+use native.Mathlib.Omega.{arith}
+use lib.IntN.{pos, negsuc}
+use Rattle.numbers.specs.Fields.{natOf}
+use Rattle.rules.specs.declared.Answer.{Answer}
+use Rattle.rules.specs.declared.Answered.{Answered}
+use Rattle.rules.specs.declared.Ledger.{Ledger}
+use Rattle.rules.specs.declared.Node.{Node}
+use Rattle.rules.specs.declared.Request.{Request}
+use Rattle.rules.specs.Asks.{ADVANCE, EXPAND}
+use Rattle.rules.specs.Nodes.{owned, moved, parted, marked, positionOf, middle, leftPart, rightPart}
+use Rattle.rules.specs.Requests.{ranged, split, batchEnd, nodeIn, answered}
+use Rattle.rules.specs.Table.{InUse, at, put, nextPair}
+use Rattle.rules.proofs.Granted.{Asked, in-use, Advancing, after, Answers, refuses, owns, advances, marks, expands, looks, answers}
+use Rattle.rules.proofs.States.{Stolen}
+
+-- a node that is stored for another: the tree is as it was, an owner stays, a mark stands, and no position falls
+pub record Kept (x y : Node) : Type 0 where
+  pub start : y .start ≡ x .start
+  pub until : y .until ≡ x .until
+  pub left : y .left ≡ x .left
+  pub owner : x .owner ≢ 0 → y .owner ≡ x .owner
+  pub stands : marked x ≡ true → y .progress ≡ x .progress
+  pub forward : positionOf x ≤ x .until → positionOf x ≤ positionOf y
+
+-- neither a granted advance nor a granted expand
+pub record Quiet (r : Request) (a : Answer) : Type 0 where
+  pub no-claim : natOf (r .kind) ≡ ADVANCE → a .code ≢ 0
+  pub no-split : natOf (r .kind) ≡ EXPAND → a .code ≢ 0
+
+pub data Effect (l : Ledger) (r : Request) : Answered → Type 0 where
+  -- a refusal, or a look
+  rests : {a : Answer} → Quiet r a → Effect l r (record { ledger = l; answer = a })
+  -- the node is stored, with the position that it had
+  stores : {a : Answer} (y : Node) → Quiet r a → InUse l (nodeIn r) → Kept (at l (nodeIn r)) y
+      → positionOf y ≡ positionOf (at l (nodeIn r))
+      → Effect l r (record { ledger = put l (nodeIn r) y; answer = a })
+  -- a batch is granted
+  claims : natOf (r .kind) ≡ ADVANCE → Asked (l .teams) (l .used) r → Advancing (at l (nodeIn r)) r
+      → Effect l r (record {
+        ledger = put l (nodeIn r) (moved (at l (nodeIn r)) (pos (batchEnd (at l (nodeIn r)) r)));
+        answer = ranged (positionOf (at l (nodeIn r))) (batchEnd (at l (nodeIn r)) r);
+      })
+  -- the node gets children
+  splits : natOf (r .kind) ≡ EXPAND → Asked (l .teams) (l .used) r → Stolen (at l (nodeIn r))
+      → Effect l r (record {
+        ledger =
+            after l (nodeIn r) (parted (at l (nodeIn r)) (nextPair l)) (nextPair l) (leftPart (at l (nodeIn r))) (rightPart (at l (nodeIn r)));
+        answer = split (nextPair l) (middle (at l (nodeIn r)));
+      })
+
+-- a kind that is neither
+other-kind : {r : Request} {a : Answer} (k : ℕ) → natOf (r .kind) ≡ k → k ≢ ADVANCE → k ≢ EXPAND → Quiet r a
+other-kind k e not-claim not-split =
+    record { no-claim = λ f. absurd (not-claim (sym e ∙ f)); no-split = λ f. absurd (not-split (sym e ∙ f)) }
+
+pub effect : {l : Ledger} {r : Request} {k : ℕ} {a : Answered} → natOf (r .kind) ≡ k → Answers l r k a → Effect l r a
+effect e (refuses ne) = rests (record { no-claim = λ f. ne; no-split = λ f. ne })
+effect {l} {r} e (owns q f) =
+    stores
+    (owned (at l (nodeIn r)) (natOf (r .team)))
+    (other-kind _ e (omega arith) (omega arith))
+    (in-use l r q)
+    (record {
+      start = refl;
+      until = refl;
+      left = refl;
+      owner = λ some. absurd (some (f .nobody));
+      stands = λ m. refl;
+      forward = λ h. omega arith;
+    })
+    refl
+effect e (advances q f) = claims e q f
+effect {l} {r} e (marks q f) =
+    stores
+    (moved (at l (nodeIn r)) (negsuc (positionOf (at l (nodeIn r)))))
+    (other-kind _ e (omega arith) (omega arith))
+    (in-use l r q)
+    (record {
+      start = refl;
+      until = refl;
+      left = refl;
+      owner = λ some. refl;
+      stands = λ m. absurd (true≢false (sym m ∙ f .here .plain));
+      forward = λ h. omega arith;
+    })
+    refl
+effect e (expands q f) = splits e q f
+effect e (looks q) = rests (other-kind _ e (omega arith) (omega arith))
+
+pub effect-of : (l : Ledger) (r : Request) → Effect l r (answered l r)
+effect-of l r = effect refl (answers l r)
+
+pub claim-kept : (x : Node) (r : Request) → Advancing x r → Kept x (moved x (pos (batchEnd x r)))
+claim-kept x r f =
+    record {
+      start = refl;
+      until = refl;
+      left = refl;
+      owner = λ some. refl;
+      stands = λ m. absurd (true≢false (sym m ∙ f .here .plain));
+      forward = λ h. omega (arith, f .end);
+    }
+
+-- ---- the ledger alone
+
+-- nothing changes, or node n is stored, or it is split
+pub data Becomes (l : Ledger) (n : ℕ) : Ledger → Type 0 where
+  same : Becomes l n l
+  stored : (y : Node) → InUse l n → Kept (at l n) y → Becomes l n (put l n y)
+  forked : InUse l n → Stolen (at l n)
+      → Becomes l n (after l n (parted (at l n) (nextPair l)) (nextPair l) (leftPart (at l n)) (rightPart (at l n)))
+
+pub becomes : {l : Ledger} {r : Request} {a : Answered} → Effect l r a → Becomes l (nodeIn r) (a .ledger)
+becomes (rests q) = same
+becomes (stores y q u h e) = stored y u h
+becomes {l} {r} (claims k q f) =
+    stored (moved (at l (nodeIn r)) (pos (batchEnd (at l (nodeIn r)) r))) (in-use l r q) (claim-kept (at l (nodeIn r)) r f)
+becomes {l} {r} (splits k q f) = forked (in-use l r q) f
+
+pub becomes-of : (l : Ledger) (r : Request) → Becomes l (nodeIn r) (answered l r .ledger)
+becomes-of l r = becomes (effect-of l r)
