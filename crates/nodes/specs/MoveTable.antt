@@ -1,6 +1,6 @@
 -- The table of moves as a number for each state and request: the rule of the moves where both are 1 to 5, and else 0.
 use Prim.Native.Nat.{ℕ}
-use mathlib.Core.Bool.{Bool, cond, _&&_}
+use mathlib.Core.Bool.{cond, _&&_}
 use lib.Dec.{leb}
 use Rattle.rules.specs.Moves.{lastState, lastMover, leads, asNumber}
 

@@ -58,7 +58,7 @@ other-kind : {r : Request} {a : Answer} (k : ℕ) → natOf (r .kind) ≡ k → 
 other-kind k e not-claim not-split =
     record { no-claim = λ f. absurd (not-claim (sym e ∙ f)); no-split = λ f. absurd (not-split (sym e ∙ f)) }
 
-pub effect : {l : Ledger} {r : Request} {k : ℕ} {a : Answered} → natOf (r .kind) ≡ k → Answers l r k a → Effect l r a
+effect : {l : Ledger} {r : Request} {k : ℕ} {a : Answered} → natOf (r .kind) ≡ k → Answers l r k a → Effect l r a
 effect e (refuses ne) = rests (record { no-claim = λ f. ne; no-split = λ f. ne })
 effect {l} {r} e (owns q f) =
     stores
@@ -115,7 +115,7 @@ pub data Becomes (l : Ledger) (n : ℕ) : Ledger → Type 0 where
   forked : InUse l n → Stolen (at l n)
       → Becomes l n (after l n (parted (at l n) (nextPair l)) (nextPair l) (leftPart (at l n)) (rightPart (at l n)))
 
-pub becomes : {l : Ledger} {r : Request} {a : Answered} → Effect l r a → Becomes l (nodeIn r) (a .ledger)
+becomes : {l : Ledger} {r : Request} {a : Answered} → Effect l r a → Becomes l (nodeIn r) (a .ledger)
 becomes (rests q) = same
 becomes (stores y q u h e) = stored y u h
 becomes {l} {r} (claims k q f) =

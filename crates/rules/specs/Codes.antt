@@ -1,5 +1,5 @@
 -- The table of codes by example: each code of each request's order by itself, each two tests that stand next to one another and can hold at
--- once, and what own and look answer. So no number of a code and no order rests on the code that follows these definitions.
+-- once, and what own and look answer. So these definitions pin each number and each order by themselves.
 use mathlib.Core.Path.{_≡_}
 use mathlib.Core.Bool.{false}
 use mathlib.Core.List.{List, [], _∷_}
