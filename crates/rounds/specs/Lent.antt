@@ -1,29 +1,26 @@
 -- The parts of a step over lent records: where the team's record stands, the refusal where it stands nowhere, and what the step does with it.
 use Prim.Native.Nat.{ℕ}
-use mathlib.Core.Bool.{cond, not}
-use mathlib.Core.List.{List, [], _∷_}
-use lib.Dec.{ltb}
+use mathlib.Core.Bool.{cond}
+use mathlib.Core.List.{List}
 use lib.IntN.{ℤ}
 use Rattle.numbers.specs.Fields.{within}
 use Rattle.rules.specs.declared.Ledger.{Ledger}
 use Rattle.rules.specs.Requests.{refused}
-use Rattle.rules.specs.Tests.{_when_, first}
-use Rattle.rules.specs.WellFormed.{wellFormed}
+use Rattle.rules.specs.Tests.{first}
 use Rattle.steps.specs.declared.Team.{Team}
 use Rattle.steps.specs.declared.Stepped.{Stepped}
 use Rattle.steps.specs.declared.Round.{Round}
-use Rattle.steps.specs.Step.{slotOf, soloStep, roundOf, lentStep, recordsAfter}
+use Rattle.steps.specs.Step.{slotOf, tooFew, frontTests, soloStep, roundOf, lentStep, recordsAfter}
 use Rattle.rounds.specs.declared.Apart.{Apart}
 use Rattle.rounds.specs.declared.Table.{Table}
 
 -- the slot of a team's record among n lent ones: n where 3 or 18 holds
 unfoldable pub slotIn : Ledger → ℤ → ℕ → ℕ
-slotIn l number n = cond (within number 1 (l .teams)) (cond (ltb n (l .teams)) n (slotOf number)) n
+slotIn l number n = cond (within number 1 (l .teams)) (cond (tooFew l n) n (slotOf number)) n
 
 -- the first of 1, 3 and 18 that holds
 unfoldable pub outsideCode : Ledger → ℤ → ℕ → ℕ
-outsideCode l number n =
-    first ((1 when not (wellFormed l)) ∷ (3 when not (within number 1 (l .teams))) ∷ (18 when ltb n (l .teams)) ∷ []) 0
+outsideCode l number n = first (frontTests l number n) 0
 
 abbrev pub refusedRound : Ledger → ℤ → ℕ → Round
 refusedRound l number n = record { ledger = l; kind = 0; node = 0; answer = refused (outsideCode l number n) }

@@ -1,4 +1,5 @@
--- A run to its end, so that what is said of runs in which every team has stopped is said of some; and a step that lends too few records.
+-- The worked examples, computed; a run to its end, so that what is said of runs in which every team has stopped is said of some; and a step
+-- that lends too few records.
 use mathlib.Core.Path.{_≡_, refl}
 use mathlib.Core.List.{List, [], _∷_}
 use lib.IntN.{ℤ, pos}
@@ -11,9 +12,23 @@ use Rattle.rules.specs.States.{stateOf, stolenOf}
 use Rattle.rules.specs.Table.{at, put, nextPair, grown, sumBy, stolenIn}
 use Rattle.rules.specs.WellFormed.{upTo, aloneRule, childRule, nodeRule, leftIs, pairRule, unusedRule, wellFormed}
 use Rattle.steps.specs.Records.{freshTeam}
-use Rattle.steps.specs.Places.{searchOf, seekMoves, takeMoves, workMoves, claimMoves}
+use Rattle.steps.specs.Places.{searchOf, seekMoves, markMoves, takeMoves, workMoves, claimMoves, splitMoves}
+use Rattle.steps.specs.Examples.{RightRequests, RightMoves, RightOrder, RightLimits}
 use Rattle.steps.specs.Run.{begun, stepTeam, runSteps, runTeams, stoppedTo, stoppedTeams}
 use Rattle.steps.specs.Step.{stepFrom, lentCode, stepUnless, lentStep, recordsAfter}
+
+pub right-requests : RightRequests
+right-requests = refl
+
+pub right-moves : RightMoves
+unfolding searchOf seekMoves markMoves takeMoves workMoves claimMoves splitMoves
+right-moves = refl
+
+pub right-order : RightOrder
+right-order l number cap rs r = (refl, refl)
+
+pub right-limits : RightLimits
+right-limits = (refl, refl, refl)
 
 -- one sheet, one team
 abbrev small : Opening

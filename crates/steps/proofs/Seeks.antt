@@ -18,7 +18,7 @@ use Rattle.steps.specs.Places.{Search, scan, searchOf, seekMoves, markMo
 use Rattle.steps.proofs.Stages.{parting, stageOf}
 use Rattle.steps.proofs.Asked.{by-look}
 
--- a search that meets these is on the way to the root: under way from a fresh record, it stays so until it has come to take it
+-- how far a search has come that is on the way to the root: the scan stands at it
 abbrev pub Hope : Team → Type 0
 Hope r = r .node ≡ 1
 
@@ -68,5 +68,6 @@ pub sought : (t : ℕ) (r : Team) → Seeks (searchOf r) t r
 unfolding searchOf
 sought t r = scan-seeks t r
 
+-- a fresh record is on the way
 pub begins : Hope freshTeam
 begins = refl
