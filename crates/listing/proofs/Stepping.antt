@@ -44,7 +44,7 @@ use Rattle.steps.specs.Run.{Run, stepTeam, runSteps}
 use Rattle.steps.proofs.Fits.{Fit}
 use Rattle.steps.proofs.Runs.{opened-used}
 use Rattle.steps.proofs.Turns.{step-turn, asks-node}
-use Rattle.places.specs.Ready.{Ready}
+use Rattle.places.specs.Clipped.{Ready}
 use Rattle.line_rules.specs.Line.{Line}
 use Rattle.listing_rules.specs.Steps.{runWith, runFrom, startOf, endOf, stepLine, noteOf, notes, lastLine}
 use Rattle.listing_rules.specs.Paper.{Paper, printed, printedAll}

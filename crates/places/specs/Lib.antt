@@ -1,2 +1,2 @@
--- What the code of a step may count on.
-pub mod Ready
+-- What the code of the places says of any numbers at all.
+pub mod Clipped

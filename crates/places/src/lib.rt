@@ -1,14 +1,12 @@
 // The seven places: what a team asks at each, and where the answer sends it.
 ghost use mathlib.Core.Path.{_≡_};
 ghost use mathlib.Core.Bool.{cond};
-ghost use Prim.Native.Nat.{_≤_};
 ghost use lib.Dec.{eqb};
-ghost use Rattle.steps.specs.Records.{maxNode, claim, mark, isStopped};
+ghost use Rattle.steps.specs.Records.{claim, mark, isStopped};
 ghost use Rattle.numbers.specs.Progress.{signed};
 ghost use Rattle.rules.specs.Asks.{request};
-ghost use Rattle.steps.specs.Places.{stealable, again, onward, takeChild, grownSize, sightMoves, seekMoves, takeMoves, workMoves, claimMoves, markMoves, splitMoves};
-ghost use Rattle.steps.specs.Turn.{asks, moves};
-ghost use Rattle.places.specs.Ready.{Limited};
+ghost use Rattle.steps.specs.Places.{stealable, again, onward, grownSize, sightMoves, seekMoves, takeMoves, workMoves, claimMoves, markMoves, splitMoves};
+ghost use Rattle.places.specs.Clipped.{clippedTeam, clippedAnswer, clippedAsks, clippedMoves};
 
 mod records;
 
@@ -46,7 +44,7 @@ pub fn has_stopped(p: Place) -> bool
 
 // The request that a team makes at its place. One that has stopped makes none, which is a request of kind 0.
 pub fn asks_of(number: u32, t: Team) -> Request
-    ensures { λ q. ⌜ (Limited number t → q ≡ asks number t) ⌝ }
+    ensures { λ q. ⌜ q ≡ clippedAsks number t ⌝ }
 {
     let n = t.node;
     let place = t.place;
@@ -69,72 +67,67 @@ fn is_stealable(number: u32, a: Answer) -> bool
 
 // An OWNED node of another team is marked, and the team's own is passed.
 fn owned_moves(number: u32, t: Team, a: Answer) -> Team
-    ensures { λ r. ⌜ (t .node ≤ maxNode → r ≡ cond (stealable number a) (mark t (t .node) (a .«from»)) (onward t)) ⌝ }
+    ensures { λ r. ⌜ r ≡ cond (stealable number a) (mark (clippedTeam t) (clippedTeam t .node) (a .«from»)) (onward (clippedTeam t)) ⌝ }
 {
-    let n = t.node;
     if is_stealable(number, a) {
-        records::mark_at(t, n, a.from)
+        records::mark_here(t, a.from)
     } else {
-        records::seek_at(t, records::next_of(n))
+        records::onward_from(t)
     }
 }
 
 fn sight_moves(number: u32, t: Team, a: Answer) -> Team
-    ensures { λ r. ⌜ (t .node ≤ maxNode → r ≡ sightMoves number t a) ⌝ }
+    ensures { λ r. ⌜ r ≡ sightMoves number (clippedTeam t) a ⌝ }
 {
-    let n = t.node;
     let state = a.state;
     match state {
-        Node::AVAILABLE => records::take_at(t, n),
+        Node::AVAILABLE => records::take_here(t),
         Node::OWNED => owned_moves(number, t, a),
-        Node::STOLEN => records::split_at(t, n, Side::Right),
-        _ => records::seek_at(t, records::next_of(n)),
+        Node::STOLEN => records::split_here(t, Side::Right),
+        _ => records::onward_from(t),
     }
 }
 
 fn seek_moves(number: u32, t: Team, a: Answer) -> Team
-    ensures { λ r. ⌜ (t .node ≤ maxNode → r ≡ seekMoves number t a) ⌝ }
+    ensures { λ r. ⌜ r ≡ seekMoves number (clippedTeam t) a ⌝ }
 {
     let code = a.code;
     match code {
-        4 => records::stop_there(t),
+        4 => records::stop_here(t),
         _ => sight_moves(number, t, a),
     }
 }
 
 fn take_moves(t: Team, a: Answer) -> Team
-    ensures { λ r. ⌜ r ≡ takeMoves t a ⌝ }
+    ensures { λ r. ⌜ r ≡ takeMoves (clippedTeam t) a ⌝ }
 {
-    let n = t.node;
     let code = a.code;
     match code {
-        0 => records::work_at(records::resize(t, 1), n),
-        _ => records::seek_at(t, 1),
+        0 => records::work_here(records::resize(t, 1)),
+        _ => records::start_again(t),
     }
 }
 
 // An OWNED node is claimed by its owner alone.
 fn held_moves(number: u32, t: Team, a: Answer) -> Team
-    ensures { λ r. ⌜ r ≡ cond (eqb (a .owner) number) (claim t (t .node) (a .«from»)) (again t) ⌝ }
+    ensures { λ r. ⌜ r ≡ cond (eqb (a .owner) number) (claim (clippedTeam t) (clippedTeam t .node) (a .«from»)) (again t) ⌝ }
 {
-    let n = t.node;
     if a.owner == number {
-        records::claim_at(t, n, a.from)
+        records::claim_here(t, a.from)
     } else {
-        records::seek_at(t, 1)
+        records::start_again(t)
     }
 }
 
 fn work_moves(number: u32, t: Team, a: Answer) -> Team
-    ensures { λ r. ⌜ r ≡ workMoves number t a ⌝ }
+    ensures { λ r. ⌜ r ≡ workMoves number (clippedTeam t) (clippedAnswer a) ⌝ }
 {
-    let n = t.node;
     let state = a.state;
     match state {
         Node::OWNED => held_moves(number, t, a),
-        Node::STOLEN => records::split_at(t, n, Side::Left),
-        Node::EXPANDED => records::take_at(t, a.left),
-        _ => records::seek_at(t, 1),
+        Node::STOLEN => records::split_here(t, Side::Left),
+        Node::EXPANDED => records::take_child(t, Side::Left, a),
+        _ => records::start_again(t),
     }
 }
 
@@ -147,50 +140,42 @@ fn grown_size(cap: u32, t: Team) -> u32
 }
 
 fn claim_moves(cap: u32, t: Team, a: Answer) -> Team
-    ensures { λ r. ⌜ r ≡ claimMoves cap t a ⌝ }
+    ensures { λ r. ⌜ r ≡ claimMoves cap (clippedTeam t) a ⌝ }
 {
-    let n = t.node;
     let code = a.code;
     match code {
-        0 => records::work_at(records::resize(t, grown_size(cap, t)), n),
-        9 => records::split_at(t, n, Side::Left),
-        _ => records::work_at(t, n),
+        0 => records::work_here(records::resize(t, grown_size(cap, t))),
+        9 => records::split_here(t, Side::Left),
+        _ => records::work_here(t),
     }
 }
 
 fn mark_moves(t: Team, a: Answer) -> Team
-    ensures { λ r. ⌜ (t .node ≤ maxNode → r ≡ markMoves t a) ⌝ }
+    ensures { λ r. ⌜ r ≡ markMoves (clippedTeam t) a ⌝ }
 {
-    let n = t.node;
     let code = a.code;
     match code {
-        0 => records::split_at(t, n, Side::Right),
-        14 => records::seek_at(t, records::next_of(n)),
-        _ => records::seek_at(t, n),
+        0 => records::split_here(t, Side::Right),
+        14 => records::onward_from(t),
+        _ => records::seek_here(t),
     }
-}
-
-fn child_moves(t: Team, a: Answer) -> Team
-    ensures { λ r. ⌜ (a .left ≤ maxNode → r ≡ takeChild t a) ⌝ }
-{
-    let side = t.side;
-    records::take_at(t, records::child_on(side, a.left))
 }
 
 // A team that comes second to a split is told where the children are, as the first is.
 fn split_moves(t: Team, a: Answer) -> Team
-    ensures { λ r. ⌜ (a .left ≤ maxNode → r ≡ splitMoves t a) ⌝ }
+    ensures { λ r. ⌜ r ≡ splitMoves (clippedTeam t) (clippedAnswer a) ⌝ }
 {
+    let side = t.side;
     let code = a.code;
     match code {
-        0 | 16 => child_moves(t, a),
-        _ => records::seek_at(t, 1),
+        0 | 16 => records::take_child(t, side, a),
+        _ => records::start_again(t),
     }
 }
 
 // Where an answer sends a team from its place.
 pub fn moves_of(number: u32, cap: u32, t: Team, a: Answer) -> Team
-    ensures { λ r. ⌜ (t .node ≤ maxNode → a .left ≤ maxNode → r ≡ moves number cap t a) ⌝ }
+    ensures { λ r. ⌜ r ≡ clippedMoves number cap t a ⌝ }
 {
     let place = t.place;
     match place {
@@ -200,6 +185,6 @@ pub fn moves_of(number: u32, cap: u32, t: Team, a: Answer) -> Team
         Place::Claim => claim_moves(cap, t, a),
         Place::Mark => mark_moves(t, a),
         Place::Split => split_moves(t, a),
-        Place::Stopped => t,
+        Place::Stopped => records::stop_here(t),
     }
 }

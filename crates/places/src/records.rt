@@ -1,7 +1,10 @@
 // The moves of a team's record: each sets the fields that it names and keeps the others.
 ghost use mathlib.Core.Path.{_≡_};
-ghost use Prim.Native.Nat.{_+_, _≤_};
+ghost use Prim.Native.Nat.{min};
 ghost use Rattle.steps.specs.Records.{maxNode, placed, aimed, sided, sized, seek, take, work, claim, mark, split, stop, childOn};
+ghost use Rattle.steps.specs.Places.{again, onward};
+ghost use Rattle.places.specs.Clipped.{clippedTeam, clippedAnswer};
+use rules::Answer;
 use steps::Place;
 use steps::Side;
 use steps::Team;
@@ -48,61 +51,89 @@ pub(crate) fn resize(t: Team, k: u32) -> Team
     r
 }
 
-pub(crate) fn seek_at(t: Team, n: u32) -> Team
-    ensures { λ r. ⌜ r ≡ seek t n ⌝ }
+// ---- at the record's own node, clipped
+
+fn node_in(t: Team) -> u32
+    ensures { λ n. ⌜ n ≡ clippedTeam t .node ⌝ }
 {
-    place_at(t, Place::Seek, n)
+    numbers::lesser(t.node, Team::NODE)
 }
 
-pub(crate) fn take_at(t: Team, n: u32) -> Team
-    ensures { λ r. ⌜ r ≡ take t n ⌝ }
+fn place_here(t: Team, p: Place) -> Team
+    ensures { λ r. ⌜ r ≡ placed (clippedTeam t) p (clippedTeam t .node) ⌝ }
 {
-    place_at(t, Place::Take, n)
+    place_at(t, p, node_in(t))
 }
 
-pub(crate) fn work_at(t: Team, n: u32) -> Team
-    ensures { λ r. ⌜ r ≡ work t n ⌝ }
+pub(crate) fn seek_here(t: Team) -> Team
+    ensures { λ r. ⌜ r ≡ seek (clippedTeam t) (clippedTeam t .node) ⌝ }
 {
-    place_at(t, Place::Work, n)
+    place_here(t, Place::Seek)
 }
 
-pub(crate) fn claim_at(t: Team, n: u32, p: u32) -> Team
-    ensures { λ r. ⌜ r ≡ claim t n p ⌝ }
+pub(crate) fn take_here(t: Team) -> Team
+    ensures { λ r. ⌜ r ≡ take (clippedTeam t) (clippedTeam t .node) ⌝ }
 {
-    aim_at(place_at(t, Place::Claim, n), p)
+    place_here(t, Place::Take)
 }
 
-pub(crate) fn mark_at(t: Team, n: u32, p: u32) -> Team
-    ensures { λ r. ⌜ r ≡ mark t n p ⌝ }
+pub(crate) fn work_here(t: Team) -> Team
+    ensures { λ r. ⌜ r ≡ work (clippedTeam t) (clippedTeam t .node) ⌝ }
 {
-    aim_at(place_at(t, Place::Mark, n), p)
+    place_here(t, Place::Work)
 }
 
-pub(crate) fn split_at(t: Team, n: u32, d: Side) -> Team
-    ensures { λ r. ⌜ r ≡ split t n d ⌝ }
+pub(crate) fn claim_here(t: Team, p: u32) -> Team
+    ensures { λ r. ⌜ r ≡ claim (clippedTeam t) (clippedTeam t .node) p ⌝ }
 {
-    turn_to(place_at(t, Place::Split, n), d)
+    aim_at(place_here(t, Place::Claim), p)
 }
 
-pub(crate) fn stop_there(t: Team) -> Team
-    ensures { λ r. ⌜ r ≡ stop t ⌝ }
+pub(crate) fn mark_here(t: Team, p: u32) -> Team
+    ensures { λ r. ⌜ r ≡ mark (clippedTeam t) (clippedTeam t .node) p ⌝ }
 {
-    place_at(t, Place::Stopped, t.node)
+    aim_at(place_here(t, Place::Mark), p)
 }
 
-// The next number, of any that a table can have.
-pub(crate) fn next_of(n: u32) -> u32
-    ensures { λ r. ⌜ (n ≤ maxNode → r ≡ n + 1) ⌝ }
+pub(crate) fn split_here(t: Team, d: Side) -> Team
+    ensures { λ r. ⌜ r ≡ split (clippedTeam t) (clippedTeam t .node) d ⌝ }
 {
-    numbers::lesser(n, Team::NODE) + 1
+    turn_to(place_here(t, Place::Split), d)
+}
+
+pub(crate) fn stop_here(t: Team) -> Team
+    ensures { λ r. ⌜ r ≡ stop (clippedTeam t) ⌝ }
+{
+    place_here(t, Place::Stopped)
+}
+
+// ---- elsewhere
+
+pub(crate) fn onward_from(t: Team) -> Team
+    ensures { λ r. ⌜ r ≡ onward (clippedTeam t) ⌝ }
+{
+    place_at(t, Place::Seek, node_in(t) + 1)
+}
+
+pub(crate) fn start_again(t: Team) -> Team
+    ensures { λ r. ⌜ r ≡ again t ⌝ }
+{
+    place_at(t, Place::Seek, 1)
 }
 
 // The child on a side, by the left child's number.
-pub(crate) fn child_on(d: Side, left: u32) -> u32
-    ensures { λ r. ⌜ (left ≤ maxNode → r ≡ childOn d left) ⌝ }
+fn child_on(d: Side, left: u32) -> u32
+    ensures { λ r. ⌜ r ≡ childOn d (min left maxNode) ⌝ }
 {
+    let first = numbers::lesser(left, Team::NODE);
     match d {
-        Side::Left => left,
-        Side::Right => next_of(left),
+        Side::Left => first,
+        Side::Right => first + 1,
     }
+}
+
+pub(crate) fn take_child(t: Team, d: Side, a: Answer) -> Team
+    ensures { λ r. ⌜ r ≡ take t (childOn d (clippedAnswer a .left)) ⌝ }
+{
+    place_at(t, Place::Take, child_on(d, a.left))
 }

@@ -1,5 +1,5 @@
 -- What the code of a step needs of the definitions, over plain variables.
-use mathlib.Core.Path.{_≡_, refl}
+use mathlib.Core.Path.{_≡_, refl, _∙_}
 use mathlib.Core.Bool.{Bool, true, false, cond, _||_, true≢false}
 use Prim.Native.Nat.{ℕ, _≤_, _<_}
 use native.Mathlib.Omega.{arith}
@@ -30,7 +30,8 @@ use Rattle.steps.specs.declared.Team.{Team}
 use Rattle.steps.specs.Records.{maxNode, isStopped}
 use Rattle.steps.specs.Step.{resting, stepFrom, stepAt, unfit, soloTests, soloCode}
 use Rattle.steps.specs.Turn.{asks, moves, still, turned}
-use Rattle.places.specs.Ready.{Limited, Ready}
+use Rattle.places.specs.Clipped.{clippedAsks, clippedMoves, Limited, Ready}
+use Rattle.places.proofs.Laws.{unclipped-asks, unclipped-moves}
 
 -- ---- the limits of what a team sees
 
@@ -96,7 +97,7 @@ module _ (l : Ledger) (s : Sound l) where
       (requested-wf l q w)
       (left-small (view l (nodeIn q)) q maxNode (any-child-small (nodeIn q)) (omega (arith, spare l w .next, used-high l w)))
 
--- ---- a step's parts put together
+-- ---- a step's parts put together, where the limits hold
 
 module _ (number cap : ℕ) (l : Ledger) (r : Team) where
   pub step-rests : isStopped (r .place) ≡ true → stepAt number cap l r ≡ resting l r
@@ -104,15 +105,21 @@ module _ (number cap : ℕ) (l : Ledger) (r : Team) where
   step-rests e = rw e
 
   pub step-made : {q : Request} {d : Answered} {m : Team} {kind node : ℕ}
+      → Sound l
+      → Limited number r
       → isStopped (r .place) ≡ false
-      → q ≡ asks number r
+      → q ≡ clippedAsks number r
       → d ≡ requested l q
-      → m ≡ moves number cap r (d .answer)
+      → m ≡ clippedMoves number cap r (d .answer)
       → kind ≡ natOf (q .kind)
       → node ≡ natOf (q .node)
       → record { ledger = d .ledger; team = m; kind = kind; node = node; answer = d .answer } ≡ stepAt number cap l r
   unfolding stepFrom
-  step-made going asked done moved k n = rw (going, moved, k, n, done, asked)
+  step-made {q} {d} {m} sound limited going asked done moved k n =
+      let small : d .answer .left ≤ maxNode = rw done (answer-small l sound q) in
+      let q-is : q ≡ asks number r = asked ∙ unclipped-asks number r limited in
+      let m-is : m ≡ moves number cap r (d .answer) = moved ∙ unclipped-moves number cap r (d .answer) (limited .node-high) small in
+      rw (going, m-is, k, n, done, q-is)
 
 module _ (number cap : ℕ) (r : Team) (v : View) where
   pub turn-rests : isStopped (r .place) ≡ true → turned number cap r v ≡ still r
@@ -120,15 +127,21 @@ module _ (number cap : ℕ) (r : Team) (v : View) where
   turn-rests e = rw e
 
   pub turn-made : {q : Request} {o : Outcome} {m : Team} {kind node : ℕ}
+      → Ready number r v
       → isStopped (r .place) ≡ false
-      → q ≡ asks number r
+      → q ≡ clippedAsks number r
       → o ≡ decided v q
-      → m ≡ moves number cap r (o .answer)
+      → m ≡ clippedMoves number cap r (o .answer)
       → kind ≡ natOf (q .kind)
       → node ≡ natOf (q .node)
       → record { team = m; kind = kind; node = node; answer = o .answer; change = o .change } ≡ turned number cap r v
   unfolding turned
-  turn-made going asked done moved k n = rw (going, moved, k, n, done, asked)
+  turn-made {q} {o} {m} ready going asked done moved k n =
+      let small : o .answer .left ≤ maxNode = rw done (left-small v q maxNode (ready .left-high) (ready .pair-high)) in
+      let q-is : q ≡ asks number r = asked ∙ unclipped-asks number r (ready .limited) in
+      let m-is : m ≡ moves number cap r (o .answer) =
+      moved ∙ unclipped-moves number cap r (o .answer) (ready .limited .node-high) small in
+      rw (going, m-is, k, n, done, q-is)
 
 -- ---- the tests passed
 

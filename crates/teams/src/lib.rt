@@ -4,7 +4,7 @@ ghost use mathlib.Core.Bool.{true};
 ghost use Rattle.rules.specs.WellFormed.{wellFormed};
 ghost use Rattle.steps.specs.Step.{unfit, soloCode, unmoved, stepAt, soloStep};
 ghost use Rattle.steps.specs.Turn.{still, turned};
-ghost use Rattle.places.specs.Ready.{Limited, Ready};
+ghost use Rattle.places.specs.Clipped.{Limited, Ready};
 use rules::Change;
 use rules::Ledger;
 use rules::Opening;

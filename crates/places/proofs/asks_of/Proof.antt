@@ -1,10 +1,6 @@
 -- The request of each place.
-use mathlib.Core.Path.{_∙_}
 use borrow.Author.Needs.{needs}
-use native.Mathlib.Omega.{arith}
 use Rattle.numbers.proofs.Signed.{told}
-use Rattle.rules.specs.Asks.{OWN, ADVANCE, MARK, EXPAND, LOOK}
-use Rattle.places.proofs.Laws.{asked-is}
 use Rattle.places.proofs.asks_of.Statement.{statement}
 use Rattle.places.proofs.asks_of.Tie as tie
 
@@ -24,10 +20,10 @@ asks-of-spec = tie.close (tie.spec
     (λ c κs. tt)
     (λ c. search needs)
     (λ c κs. tt)
-    (λ c. λ h. rw (c .before .enum-told .given .1) (c .request-of .ensures ∙ asked-is LOOK 0 _ h (omega arith) (omega arith)))
-    (λ c. λ h. rw (c .before .enum-told2 .given .1) (c .request-of2 .ensures ∙ asked-is OWN 0 _ h (omega arith) (omega arith)))
-    (λ c. λ h. rw (c .before .enum-told3 .given .1) (c .request-of3 .ensures ∙ asked-is LOOK 0 _ h (omega arith) (omega arith)))
-    (λ c. λ h. rw (c .before .before .enum-told4 .given .1) (rw (told (c .before .before .before .before .args .t .position) (c .before .struct-told .given .1 .1 .0 .1)) at (c .request-of4 .ensures) ∙ asked-is ADVANCE (c .before .before .before .before .args .t .size) _ h (omega arith) (h .size-high)))
-    (λ c. λ h. rw (c .before .before .enum-told5 .given .1) (rw (told (c .before .before .before .before .args .t .position) (c .before .struct-told2 .given .1 .1 .0 .1)) at (c .request-of5 .ensures) ∙ asked-is MARK 0 _ h (omega arith) (omega arith)))
-    (λ c. λ h. rw (c .before .enum-told6 .given .1) (c .request-of6 .ensures ∙ asked-is EXPAND 0 _ h (omega arith) (omega arith)))
-    (λ c. λ h. rw (c .before .enum-told7 .given .1) (c .request-of7 .ensures)))
+    (λ c. rw (c .before .enum-told .given .1) (c .request-of .ensures))
+    (λ c. rw (c .before .enum-told2 .given .1) (c .request-of2 .ensures))
+    (λ c. rw (c .before .enum-told3 .given .1) (c .request-of3 .ensures))
+    (λ c. rw (c .before .before .enum-told4 .given .1) (rw (told (c .before .before .before .before .args .t .position) (c .before .struct-told .given .1 .1 .0 .1)) at (c .request-of4 .ensures)))
+    (λ c. rw (c .before .before .enum-told5 .given .1) (rw (told (c .before .before .before .before .args .t .position) (c .before .struct-told2 .given .1 .1 .0 .1)) at (c .request-of5 .ensures)))
+    (λ c. rw (c .before .enum-told6 .given .1) (c .request-of6 .ensures))
+    (λ c. rw (c .before .enum-told7 .given .1) (c .request-of7 .ensures)))

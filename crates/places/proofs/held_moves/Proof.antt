@@ -7,5 +7,5 @@ pub held-moves-spec : {M : Type 1} → statement M
 held-moves-spec = tie.close (tie.spec
     (λ c κs. tt)
     (λ c κs. tt)
-    (λ c. rw (eq-eqb _ _ (c .before .if1 .taken)) (c .claim-at .ensures))
-    (λ c. rw (ne-eqb _ _ (c .before .if1 .left)) (c .seek-at .ensures)))
+    (λ c. rw (eq-eqb _ _ (c .before .if1 .taken)) (c .claim-here .ensures))
+    (λ c. rw (ne-eqb _ _ (c .before .if1 .left)) (c .start-again .ensures)))

@@ -7,6 +7,5 @@ owned-moves-spec = tie.close (tie.spec
     (λ c κs. tt)
     (λ c κs. tt)
     (λ c κs. tt)
-    (λ c κs. tt)
-    (λ c. λ h. rw (← c .before .before .is-stealable .ensures, c .before .if1 .taken) (c .mark-at .ensures))
-    (λ c. λ h. rw (← c .before .before .before .is-stealable .ensures, c .before .before .if1 .left, c .seek-at .ensures, c .before .next-of .ensures h)))
+    (λ c. rw (← c .before .before .is-stealable .ensures, c .before .if1 .taken) (c .mark-here .ensures))
+    (λ c. rw (← c .before .before .is-stealable .ensures, c .before .if1 .left) (c .onward-from .ensures)))

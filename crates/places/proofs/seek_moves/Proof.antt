@@ -9,5 +9,5 @@ unfolding seekMoves
 seek-moves-spec = tie.close (tie.spec
     (λ c κs. tt)
     (λ c κs. tt)
-    (λ c. λ h. rw (c .before .match .keys1) (c .stop-there .ensures))
-    (λ c. λ h. rw (ne-eqb _ 4 (c .before .match .rest .1)) (c .sight-moves .ensures h)))
+    (λ c. rw (c .before .match .keys1) (c .stop-here .ensures))
+    (λ c. rw (ne-eqb _ 4 (c .before .match .rest .1)) (c .sight-moves .ensures)))

@@ -9,5 +9,5 @@ unfolding splitMoves
 split-moves-spec = tie.close (tie.spec
     (λ c κs. tt)
     (λ c κs. tt)
-    (λ c. λ h. rw (is-parted (c .before .match .keys1)) (c .child-moves .ensures h))
-    (λ c. λ h. rw (not-parted (c .before .match .rest .1)) (c .seek-at .ensures)))
+    (λ c. rw (is-parted (c .before .match .keys1)) (c .take-child .ensures))
+    (λ c. rw (not-parted (c .before .match .rest .1)) (c .start-again .ensures)))

@@ -10,5 +10,5 @@ take-moves-spec = tie.close (tie.spec
     (λ c κs. tt)
     (λ c κs. tt)
     (λ c κs. tt)
-    (λ c. rw (c .before .before .match .keys1, c .work-at .ensures, c .before .resize .ensures))
-    (λ c. rw (ne-eqb _ 0 (c .before .match .rest .1)) (c .seek-at .ensures)))
+    (λ c. rw (c .before .before .match .keys1, c .work-here .ensures, c .before .resize .ensures))
+    (λ c. rw (ne-eqb _ 0 (c .before .match .rest .1)) (c .start-again .ensures)))

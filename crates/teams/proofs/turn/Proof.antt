@@ -1,8 +1,7 @@
 -- One request, that of the record's place, and none where it has stopped.
 use mathlib.Core.Path.{sym, _∙_}
 use Rattle.nodes.proofs.Laws.{natural-held}
-use Rattle.steps.specs.Records.{maxNode}
-use Rattle.teams.proofs.Laws.{left-small, turn-rests, turn-made}
+use Rattle.teams.proofs.Laws.{turn-rests, turn-made}
 use Rattle.teams.proofs.turn.Statement.{statement}
 use Rattle.teams.proofs.turn.Tie as tie
 
@@ -16,4 +15,4 @@ turn-spec = tie.close (tie.spec
     (λ c κs. tt)
     (λ c κs. tt)
     (λ c κs. tt)
-    (λ c. λ k. let q = c .before .before .before .before .before .before .before .asks-of .result in let done = c .before .before .before .before .before .before .decide .ensures (k .until-high) in turn-made _ _ _ _ (sym (c .before .before .before .before .before .before .before .before .before .has-stopped .ensures) ∙ c .before .before .before .before .before .before .before .before .if1 .left) (c .before .before .before .before .before .before .before .asks-of .ensures (k .limited)) done (c .before .before .before .before .moves-of .ensures (k .limited .node-high) (rw done (left-small _ q maxNode (k .left-high) (k .pair-high)))) (sym (natural-held (q .kind) _ (c .before .before .before .struct-told .given .0 .1) (c .before .before .natural .ensures))) (sym (natural-held (q .node) _ (c .before .struct-told2 .given .1 .1 .0 .1) (c .natural2 .ensures)))))
+    (λ c. λ k. let q = c .before .before .before .before .before .before .before .asks-of .result in let done = c .before .before .before .before .before .before .decide .ensures (k .until-high) in turn-made _ _ _ _ k (sym (c .before .before .before .before .before .before .before .before .before .has-stopped .ensures) ∙ c .before .before .before .before .before .before .before .before .if1 .left) (c .before .before .before .before .before .before .before .asks-of .ensures) done (c .before .before .before .before .moves-of .ensures) (sym (natural-held (q .kind) _ (c .before .before .before .struct-told .given .0 .1) (c .before .before .natural .ensures))) (sym (natural-held (q .node) _ (c .before .struct-told2 .given .1 .1 .0 .1) (c .natural2 .ensures)))))

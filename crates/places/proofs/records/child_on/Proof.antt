@@ -1,13 +1,13 @@
 -- The left child, or the next number.
 use borrow.Author.Needs.{needs}
-use mathlib.Core.Path.{refl}
 use Rattle.places.proofs.records.child_on.Statement.{statement}
 use Rattle.places.proofs.records.child_on.Tie as tie
 
 pub child-on-spec : {M : Type 1} → statement M
 child-on-spec = tie.close (tie.spec
-    (λ c. search needs)
-    (λ c. search needs)
     (λ c κs. tt)
-    (λ c. λ h. rw (c .enum-told .given .1) refl)
-    (λ c. λ h. rw (c .before .enum-told2 .given .1) (c .next-of .ensures h)))
+    (λ c. search needs)
+    (λ c. search needs)
+    (λ c. search needs)
+    (λ c. rw (c .enum-told .given .1) (c .before .before .lesser .ensures))
+    (λ c. rw (c .enum-told2 .given .1, c .before .before .lesser .ensures)))
