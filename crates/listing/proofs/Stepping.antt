@@ -188,7 +188,11 @@ module _ (l : Ledger) (w : WF l) (n : ℕ) where
       record {
         some = some;
         room = omega (arith, pair-room l w n u s, w .limits .room-high);
-        is = rw (slot-is u, next) (ap (λ (k : ℕ). with-nodes l k _) used ∙ unfold grown put in refl);
+        is =
+            rw
+            (slot-is u, next)
+            (ap (λ (k : ℕ). with-nodes l k (set (set (set (l .nodes) (n - 1) y) (c - 1) (leftPart x)) (c + 1 - 1) (rightPart x))) used
+            ∙ unfold grown put in refl);
         count = omega (arith, load-next l w n u s, stolen-one x s, parent-none y some, spare l w .next, spare l w .past);
       }
 

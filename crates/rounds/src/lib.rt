@@ -2,7 +2,6 @@
 ghost use mathlib.Core.Path.{_≡_};
 ghost use Rattle.rounds.specs.Lent.{slotIn, refusedRound, outsideCode, apartStep, lentRound, lentRecords, tableStep};
 use rules::Ledger;
-use rules::Opening;
 use steps::Round;
 use steps::Team;
 
