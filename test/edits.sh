@@ -109,7 +109,7 @@ for label; do
     else
         first=$(first_error)
         echo "$name/$label: refused ($took s): ${first:0:${RT_CUT:-600}}"
-        if grep -q -e 'that can be named from here' -e 'not in scope' -e 'has no field' -e 'has no clause' -e 'has no item' <<<"$first"; then
+        if grep -q -e 'that can be named from here' -e 'not in scope' -e 'has no field' -e 'has no clause' -e 'has no item' -e 'expected type `tie\.Need-' <<<"$first"; then
             echo "$name/$label: WARNING: the first error is about a name or the shape of a proof, and no fact that fails to hold"
         fi
     fi

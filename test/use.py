@@ -8,12 +8,15 @@ must be built: the gate has proved it just before. Exit status 1 if something is
 """
 
 import os
+import resource
 import shutil
 import subprocess
 import sys
 import tempfile
 import threading
 import time
+
+import longest
 
 HERE = os.path.dirname(os.path.dirname(os.path.realpath(__file__)))
 WRAPPER = [os.path.join(HERE, 'bin', 'sheets')]
@@ -133,6 +136,32 @@ def writing(name, words, failed):
         hold(name + ', a closed output', words, failed, None, 'sheets: writing', stdin=text, stdout=None, preexec_fn=closed(1))
 
 
+def interruptions(room):
+    """The program with a read and a write that are interrupted and move few bytes at a time."""
+    tools = subprocess.run(['bash', '-c', '. test/kit.sh && echo "$kit_tools"'], cwd=HERE, check=True, capture_output=True, text=True).stdout.strip()
+    made, library = os.path.join(room, 'interrupted.o'), os.path.join(room, 'interrupted.so')
+    subprocess.run([tools + '/bin/clang', '--target=x86_64-unknown-linux-gnu', '-Wall', '-Wextra', '-Werror', '-O2', '-fPIC', '-c', '-o', made,
+                    os.path.join(HERE, 'test', 'interrupted.c')], check=True)
+    subprocess.run([tools + '/bin/ld.lld', '-shared', '-o', library, made], check=True)
+    with open(os.path.join(HERE, 'examples', 'class-of-eight.txt'), 'rb') as text:
+        hold('interrupted calls', RUNNER + ['--preload', library, PROGRAM], 0, LISTING, None, stdin=text)
+
+
+def small_stack():
+    """The longest listing, with little more of the stack than README says that it needs."""
+    most = 1700000
+    text = longest.one_team().encode()
+    listing = subprocess.run(BARE, input=text, capture_output=True, check=True).stdout
+    if RUNNER and 'qemu' in RUNNER[0]:
+        words, limit = RUNNER[:1] + ['-s', str(most)] + RUNNER[1:] + [PROGRAM], None
+    else:
+        words, limit = BARE, lambda: resource.setrlimit(resource.RLIMIT_STACK, (most, most))
+    with tempfile.TemporaryFile() as file:
+        file.write(text)
+        file.seek(0)
+        hold('%d bytes of stack' % most, words, 0, listing, None, stdin=file, preexec_fn=limit)
+
+
 # ---- the wrapper alone
 
 def links(room):
@@ -227,6 +256,10 @@ def proofs(room):
     tree.use('another program in its place', True, True)
     tree.is_right(False)
     tree.use('a program that stays proved', False, True)
+    other = os.path.join(tree.tree, 'crates', 'other', 'src')
+    os.makedirs(other)
+    open(os.path.join(other, 'lib.rt'), 'w').close()
+    tree.use('another crate, which sheets does not stand on', False, True)
     tree.change_source()
     tree.use('a source that changed, and a proof that fails', True, False)
 
@@ -241,6 +274,8 @@ def main():
         reading('the program', BARE, 0)
         writing('the program', BARE, 0)
         hold('an argument', WRAPPER + ['examples/two-teams.txt'], 2, b'', 'sheets: it takes no argument')
+        interruptions(room)
+        small_stack()
         links(room)
         proofs(room)
     finally:
