@@ -1,0 +1,12 @@
+-- The length of the area, by the law.
+use Prim.Native.Nat.{ℕ}
+use Rattle.listing_rules.specs.Demands.{shortListingRoom}
+use Rattle.sheets.proofs.Areas.{repeat-length}
+use Rattle.sheets.proofs.short_listing_area.Statement.{statement}
+use Rattle.sheets.proofs.short_listing_area.Tie as tie
+
+returns : tie.Need-returns
+returns c = repeat-length ℕ 0 shortListingRoom
+
+pub short-listing-area-spec : {M : Type 1} → statement M
+short-listing-area-spec = tie.close (tie.spec returns)
