@@ -4,19 +4,19 @@ use Prim.Native.Nat.{ℕ, _+_, _-_, _≤_}
 use mathlib.Core.Bool.{true, cond, not}
 use mathlib.Core.List.{List}
 use lib.Dec.{eqb}
-use lib.ListN.{length, set, drop}
+use lib.IntN.{ℤ}
+use lib.ListN.{length, drop}
 use Rattle.text_rules.specs.declared.Verdict.{Verdict}
 use Rattle.text.specs.declared.Head.{Head}
 use Rattle.text.specs.declared.Row.{Row}
-use Rattle.text_rules.specs.declared.Token.{Token}
 use Rattle.text.specs.declared.Tally.{Tally}
 use Rattle.text.specs.declared.Survey.{Survey}
 use Rattle.text.specs.declared.Heading.{Heading}
 use Rattle.text_rules.specs.Marks.{Mark, marks}
 use Rattle.text_rules.specs.Lines.{headLine, fromHead, lineNumbers, afterLine, leftAfter, numbersOf}
-use Rattle.text_rules.specs.Judgement.{maxBytes, ruled, isGranted, given, faultFrom, openingOf, headerVerdict, scheduleMarks, teamsOf, strangerFrom}
-use Rattle.text_rules.specs.Answers.{noOpening, opensAs, restPlace}
-use Rattle.tokens.specs.Asked.{isNumber, faultOf, isStranger}
+use Rattle.text_rules.specs.Judgement.{maxBytes, ruled, isGranted, given, faultFrom, openingOf, headerVerdict, scheduleMarks, scheduleNumbers, teamsOf, strangerFrom}
+use Rattle.text_rules.specs.Answers.{noOpening, opensAs, restPlace, filled}
+use Rattle.text_rules.specs.Demands.{scheduleRoom}
 
 -- the place of the first number, and its line; a wrong byte before it is where the next pass begins
 pub record FoundHead (text : List ℕ) (r : Head) : Type 0 where
@@ -26,24 +26,14 @@ pub record FoundHead (text : List ℕ) (r : Head) : Type 0 where
   pub line : isGranted (faultFrom 1 (marks text)) ≡ true → r .line ≡ headLine 1 (marks text)
   pub there : isGranted (faultFrom 1 (marks text)) ≡ true → marks (drop (r .place) text) ≡ fromHead (marks text)
 
--- the row after one token more
-unfoldable pub rowAfter : Row → Token → Row
-rowAfter row t =
-    record {
-      count = cond (isNumber (t .kind)) (row .count + 1) (row .count);
-      five = cond (isNumber (t .kind)) (set (row .five) (row .count) (t .value)) (row .five);
-      fault = faultOf t;
-      end = t .end;
-    }
-
 -- the numbers of a whole line
 pub record WholeRow (text : List ℕ) (from : ℕ) (r : Row) : Type 0 where
   pub count : r .count ≡ length (lineNumbers (marks (drop from text)))
-  pub five : openingOf (r .five) ≡ openingOf (lineNumbers (marks (drop from text)))
+  pub first : openingOf (r .first) ≡ openingOf (lineNumbers (marks (drop from text)))
   pub end : r .end ≡ length text - leftAfter (marks (drop from text))
   pub there : marks (drop (r .end) text) ≡ afterLine (marks (drop from text))
 
--- a token with 22 or 23 ends the row; without one it is the whole line
+-- a byte with 22 or 23 ends the row; without one it is the whole line
 pub record FoundRow (text : List ℕ) (from : ℕ) (r : Row) : Type 0 where
   pub fault : (on : ℕ) → given (not (eqb (r .fault) 0)) (ruled (r .fault) on) (faultFrom (on + 1) (marks (drop (r .end) text))) ≡ faultFrom on (marks (drop from text))
   pub within : r .end ≤ length text
@@ -52,28 +42,23 @@ pub record FoundRow (text : List ℕ) (from : ℕ) (r : Row) : Type 0 where
 abbrev pub earlierOf : ℕ → ℕ → ℕ
 earlierOf first second = cond (eqb first 0) second first
 
--- the tally after one token more, which stands on the given line
-unfoldable pub tallyAfter : Tally → Token → ℕ → ℕ → Tally
-tallyAfter tally t line teams =
-    record {
-      stranger = earlierOf (tally .stranger) (cond (isStranger t teams) line 0);
-      count = cond (isNumber (t .kind)) (tally .count + 1) (tally .count);
-    }
-
--- so few lines are left that their numbers fit
-pub record TallyAsked (text : List ℕ) (from on : ℕ) : Type 0 where
+-- so few bytes are left that all lines are counted, and all numbers have room
+pub record SurveyAsked (text : List ℕ) (from on room : ℕ) : Type 0 where
+  pub short : length text ≤ maxBytes
   pub within : from ≤ length text
-  pub left : length text ≤ from + maxBytes
   pub least : 1 ≤ on
   pub most : on ≤ maxBytes + 2
+  pub enough : scheduleRoom ≡ room
 
 abbrev pub tallyOf : ℕ → ℕ → List Mark → Tally
 tallyOf teams on ms = record { stranger = strangerFrom teams on ms; count = length (numbersOf ms) }
 
--- the earliest byte with 22 or 23 from a place on; where there is none, all numbers are counted
-pub record FoundSurvey (text : List ℕ) (from on teams : ℕ) (r : Survey) : Type 0 where
+-- the earliest byte with 22 or 23 from a place on; where there is none, all numbers are counted, and the area, kept before, has them at its
+-- front later
+pub record FoundSurvey (text : List ℕ) (from on teams : ℕ) (kept : List ℤ) (r : Survey) (later : List ℤ) : Type 0 where
   pub fault : r .fault ≡ faultFrom on (marks (drop from text))
   pub tally : isGranted (r .fault) ≡ true → r .tally ≡ tallyOf teams on (marks (drop from text))
+  pub keeps : isGranted (r .fault) ≡ true → later ≡ filled (numbersOf (marks (drop from text))) kept
 
 abbrev pub refusedHeading : Verdict → ℕ → Heading
 refusedHeading v end = record { verdict = v; opening = noOpening; tally = record { stranger = 0; count = 0 }; end = end }
@@ -82,11 +67,11 @@ refusedHeading v end = record { verdict = v; opening = noOpening; tally = record
 abbrev pub headingBy : Heading → ℕ → Heading
 headingBy h end = cond (isGranted (h .verdict)) h (refusedHeading (h .verdict) end)
 
--- the header, and where the schedule begins
-pub record FoundHeading (text : List ℕ) (r : Heading) : Type 0 where
+-- the header, where the schedule begins, and its numbers
+pub record FoundHeading (text : List ℕ) (kept : List ℤ) (r : Heading) (later : List ℤ) : Type 0 where
   pub verdict : r .verdict ≡ headerVerdict (length text) (marks text)
   pub opening : r .opening ≡ opensAs (r .verdict) (marks text)
   pub end : r .end ≡ restPlace text
   pub within : r .end ≤ length text
   pub tally : isGranted (r .verdict) ≡ true → r .tally ≡ tallyOf (teamsOf (marks text)) (headLine 1 (marks text) + 1) (scheduleMarks (marks text))
-  pub there : isGranted (r .verdict) ≡ true → marks (drop (r .end) text) ≡ scheduleMarks (marks text)
+  pub keeps : isGranted (r .verdict) ≡ true → later ≡ filled (scheduleNumbers (marks text)) kept

@@ -1,30 +1,30 @@
-// The text that drives a run: its judgement, its header and its schedule, by passes over what stands in it.
+// The text that drives a run: its judgement, its header and its schedule. The text is read once: what the schedule says is kept aside until
+// the whole text is judged, for a refused text leaves the caller's area as it was.
 ghost use mathlib.Core.Path.{_≡_};
-ghost use mathlib.Core.Bool.{not};
+ghost use mathlib.Core.Bool.{not, cond};
 ghost use Prim.Native.Nat.{_≤_, _<_};
-ghost use lib.ListN.{length, drop};
-ghost use Rattle.text_rules.specs.Marks.{marks};
-ghost use Rattle.text_rules.specs.Lines.{numbersOf};
-ghost use Rattle.text_rules.specs.Judgement.{maxBytes, ruled, isGranted, given, openingOf};
-ghost use Rattle.text_rules.specs.Answers.{noOpening, headerOf, RestItself, filled, scheduleOf, areaOf};
-ghost use Rattle.tokens.specs.Asked.{lineAfter};
-ghost use Rattle.text.specs.Passes.{FoundHead, rowAfter, FoundRow, earlierOf, tallyAfter, TallyAsked, FoundSurvey, refusedHeading, headingBy, FoundHeading};
+ghost use mathlib.Core.List.{_++_};
+ghost use lib.ListN.{length, set, take, drop};
+ghost use Rattle.text_rules.specs.Judgement.{maxBytes, isHeader, ruled, isGranted, given, openingOf, isTeam};
+ghost use Rattle.text_rules.specs.Answers.{noOpening, headerOf, RestItself, scheduleOf, areaOf};
+ghost use Rattle.text_rules.specs.Demands.{scheduleRoom};
+ghost use Rattle.text.specs.Passes.{FoundHead, FoundRow, earlierOf, SurveyAsked, FoundSurvey, refusedHeading, headingBy, FoundHeading};
 use rules::Opening;
 use text_rules::Header;
 use text_rules::Schedule;
 use text_rules::Token;
 use text_rules::Verdict;
 
-// The line of the first number, or of a wrong byte before it, 0 where there is neither, and the place from which the scanner finds it.
+// The line of the first number, or of a wrong byte before it, 0 where there is neither, and its place.
 struct Head {
     line: u32,
     place: usize,
 }
 
-// A line's numbers up to its end, or up to a token with 22 or 23: how many, the first five, that code or 0, and the place after it all.
+// A line's numbers up to its end, or up to a byte with 22 or 23: how many, the first of them, that code or 0, and the place after it all.
 struct Row {
     count: usize,
-    five: [u32; Header::NUMBERS],
+    first: [u32; Header::NUMBERS],
     fault: u32,
     end: usize,
 }
@@ -49,156 +49,145 @@ struct Heading {
     end: usize,
 }
 
-// ---- The passes.
-
-// The line that comes after the token, where the token stands on the given one.
-fn line_after(t: Token, line: u32) -> u32
-    requires { ⌜ line < 4294967295 ⌝ }
-    ensures { λ r. ⌜ r ≡ lineAfter t line ⌝ }
-{
-    numbers::given_code(tokens::ends_line(t), line + 1, line)
-}
+// ---- The passes, one after the other: to the header, through its line, through the schedule.
 
 // The first number, or a wrong byte before it: that is left for the next pass to meet.
 fn find_head(text: &[u8]) -> Head
     requires { ⌜ length (now text) ≤ maxBytes ⌝ }
     ensures { λ r. ⌜ FoundHead (now (text .entry)) r ⌝ }
 {
-    let mut place = 0;
+    let mut i = 0;
     let mut line = 1;
-    while place < text.len() {
-        let t = tokens::token_at(text, place);
-        if tokens::is_number(t) | tokens::is_wrong(t) {
-            return Head { line, place };
+    while i < text.len() {
+        let b = text[i];
+        if b == b'#' {
+            i = tokens::comment_end(text, i);
+        } else if b == b'\n' {
+            line += 1;
+            i += 1;
+        } else if tokens::is_blank(b) {
+            i += 1;
+        } else {
+            return Head { line, place: i };
         }
-        line = line_after(t, line);
-        place = t.end;
     }
-    Head { line: 0, place }
+    Head { line: 0, place: i }
 }
 
-// The row after one token more: a number takes its place, where it is among the first five.
-fn taken(row: Row, t: Token) -> Row
-    requires { ⌜ row .count < 18446744073709551615 ⌝ }
-    ensures { λ r. ⌜ r ≡ rowAfter row t ⌝ }
+// The first numbers with one more, where it is among them.
+fn noted(first: [u32; Header::NUMBERS], count: usize, value: u32) -> [u32; Header::NUMBERS]
+    ensures { λ r. ⌜ r ≡ set first count value ⌝ }
 {
-    let mut five = row.five;
-    let count = row.count;
-    let fault = tokens::fault_of(t);
-    if tokens::is_number(t) {
-        if count < Header::NUMBERS {
-            five[count] = t.value;
-        }
-        Row {
-            count: count + 1,
-            five,
-            fault,
-            end: t.end,
-        }
-    } else {
-        Row {
-            count,
-            five,
-            fault,
-            end: t.end,
-        }
+    let mut new = first;
+    if count < Header::NUMBERS {
+        new[count] = value;
     }
+    new
 }
 
-// The numbers from a place up to the line's end, or up to a token with 22 or 23.
+// The numbers from a place up to the line's end, or up to a byte with 22 or 23.
 fn read_row(text: &[u8], from: usize) -> Row
     requires { ⌜ from ≤ length (now text) ⌝ }
     ensures { λ r. ⌜ FoundRow (now (text .entry)) from r ⌝ }
 {
-    let mut place = from;
-    let mut row = Row {
-        count: 0,
-        five: [0; Header::NUMBERS],
-        fault: 0,
-        end: from,
-    };
-    while place < text.len() {
-        let t = tokens::token_at(text, place);
-        row = taken(row, t);
-        if tokens::ends_line(t) | (row.fault != 0) {
-            return row;
-        }
-        place = t.end;
-    }
-    row
-}
-
-// The first of two lines that is one: 0 is none.
-fn earlier(first: u32, second: u32) -> u32
-    ensures { λ r. ⌜ r ≡ earlierOf first second ⌝ }
-{
-    if first == 0 { second } else { first }
-}
-
-// The tally after one token more, which stands on the given line.
-fn tallied(tally: Tally, t: Token, line: u32, teams: u32) -> Tally
-    requires { ⌜ tally .count < 18446744073709551615 ⌝ }
-    ensures { λ r. ⌜ r ≡ tallyAfter tally t line teams ⌝ }
-{
-    let here = numbers::given_code(tokens::is_stranger(t, teams), line, 0);
-    let stranger = earlier(tally.stranger, here);
-    if tokens::is_number(t) {
-        Tally {
-            stranger,
-            count: tally.count + 1,
-        }
-    } else {
-        Tally {
-            stranger,
-            count: tally.count,
-        }
-    }
-}
-
-// The schedule's numbers from a place on, which stands on the given line, up to a token with 22 or 23.
-fn count_numbers(text: &[u8], from: usize, on: u32, teams: u32) -> Survey
-    requires { ⌜ TallyAsked (now text) from on ⌝ }
-    ensures { λ r. ⌜ FoundSurvey (now (text .entry)) from on teams r ⌝ }
-{
-    let mut place = from;
-    let mut line = on;
-    let mut tally = Tally {
-        stranger: 0,
-        count: 0,
-    };
-    while place < text.len() {
-        let t = tokens::token_at(text, place);
-        let code = tokens::fault_of(t);
-        if code != 0 {
-            return Survey {
-                fault: Verdict { code, line },
-                tally,
+    let mut i = from;
+    let mut count = 0;
+    let mut first = [0; Header::NUMBERS];
+    let mut code = 0;
+    while (i < text.len()) & (code == 0) {
+        let b = text[i];
+        if tokens::is_numeral(b) {
+            let number = tokens::number_at(text, i);
+            code = numbers::given_code(number.value > Token::LARGEST, 23, 0);
+            let more = noted(first, count, number.value);
+            first = more;
+            count += 1;
+            i = number.end;
+        } else if b == b'#' {
+            i = tokens::comment_end(text, i);
+        } else if b == b'\n' {
+            return Row {
+                count,
+                first,
+                fault: 0,
+                end: i + 1,
             };
+        } else {
+            code = numbers::given_code(tokens::is_blank(b), 0, 22);
+            i += 1;
         }
-        tally = tallied(tally, t, line, teams);
-        line = line_after(t, line);
-        place = t.end;
+    }
+    Row {
+        count,
+        first,
+        fault: code,
+        end: i,
+    }
+}
+
+// The line of the first number that is no team's, with one number more, which stands on the given line.
+fn stranger_after(stranger: u32, value: u32, line: u32, teams: u32) -> u32
+    ensures { λ r. ⌜ r ≡ earlierOf stranger (cond (isTeam teams value) 0 line) ⌝ }
+{
+    if stranger == 0 {
+        numbers::given_code((1 <= value) & (value <= teams), 0, line)
+    } else {
+        stranger
+    }
+}
+
+// The schedule's numbers from a place on, which stands on the given line, up to a byte with 22 or 23. They are kept at the front of the
+// area.
+fn read_numbers(text: &[u8], from: usize, on: u32, teams: u32, kept: &mut [i32]) -> Survey
+    requires { ⌜ SurveyAsked (now text) from on (length (now kept)) ⌝ }
+    ensures { λ r. ⌜ FoundSurvey (now (text .entry)) from on teams (now (kept .entry)) r (now (kept .exit)) ⌝ }
+{
+    let mut i = from;
+    let mut line = on;
+    let mut stranger = 0;
+    let mut count = 0;
+    let mut code = 0;
+    while (i < text.len()) & (code == 0) {
+        let b = text[i];
+        if tokens::is_numeral(b) {
+            let number = tokens::number_at(text, i);
+            code = numbers::given_code(number.value > Token::LARGEST, 23, 0);
+            stranger = stranger_after(stranger, number.value, line, teams);
+            kept[count] = numbers::to_signed(number.value);
+            count += 1;
+            i = number.end;
+        } else if b == b'#' {
+            i = tokens::comment_end(text, i);
+        } else if b == b'\n' {
+            line += 1;
+            i += 1;
+        } else {
+            code = numbers::given_code(tokens::is_blank(b), 0, 22);
+            i += 1;
+        }
     }
     Survey {
-        fault: Verdict { code: 0, line: 0 },
-        tally,
+        fault: ruled_by(code != 0, code, line, Verdict { code: 0, line: 0 }),
+        tally: Tally { stranger, count },
     }
 }
 
-// The numbers from a place on, into the front of the area.
-fn fill(text: &[u8], from: usize, area: &mut [i32])
-    requires { ⌜ (from ≤ length (now text)) × (length (numbersOf (marks (drop from (now text)))) ≤ length (now area)) ⌝ }
-    ensures { λ r. ⌜ now (area .exit) ≡ filled (numbersOf (marks (drop from (now (text .entry))))) (now (area .entry)) ⌝ }
+// Room for all numbers of a schedule. Only its length is known to a caller, which is all that lending it needs.
+fn no_numbers() -> [i32; Schedule::ROOM]
+    ensures { λ r. ⌜ scheduleRoom ≡ length r ⌝ }
 {
-    let mut place = from;
-    let mut count = 0;
-    while place < text.len() {
-        let t = tokens::token_at(text, place);
-        place = t.end;
-        if tokens::is_number(t) {
-            area[count] = numbers::to_signed(t.value);
-            count += 1;
-        }
+    [0; Schedule::ROOM]
+}
+
+// The first of the kept numbers, so many, into the front of the area.
+fn fill(kept: &[i32], count: usize, area: &mut [i32])
+    requires { ⌜ (count ≤ length (now kept)) × (count ≤ length (now area)) ⌝ }
+    ensures { λ r. ⌜ now (area .exit) ≡ take count (now (kept .entry)) ++ drop count (now (area .entry)) ⌝ }
+{
+    let mut i = 0;
+    while i < count {
+        area[i] = kept[i];
+        i += 1;
     }
 }
 
@@ -219,14 +208,14 @@ fn refused_or(first: Verdict, later: Verdict) -> Verdict
 }
 
 fn opening_of(row: Row) -> Opening
-    ensures { λ r. ⌜ r ≡ openingOf (row .five) ⌝ }
+    ensures { λ r. ⌜ r ≡ openingOf (row .first) ⌝ }
 {
     Opening {
-        start: numbers::to_signed(row.five[0]),
-        until: numbers::to_signed(row.five[1]),
-        teams: numbers::to_signed(row.five[2]),
-        cap: numbers::to_signed(row.five[3]),
-        nodes: numbers::to_signed(row.five[4]),
+        start: numbers::to_signed(row.first[0]),
+        until: numbers::to_signed(row.first[1]),
+        teams: numbers::to_signed(row.first[2]),
+        cap: numbers::to_signed(row.first[3]),
+        nodes: numbers::to_signed(row.first[4]),
     }
 }
 
@@ -269,9 +258,17 @@ fn if_granted(found: Heading, end: usize) -> Heading
     }
 }
 
-// The header's tests over the whole text, last test first, and the header where it is granted.
-fn judge_header(text: &[u8]) -> Heading
-    ensures { λ r. ⌜ FoundHeading (now (text .entry)) r ⌝ }
+// Whether a header may have so many numbers.
+fn is_header(count: usize) -> bool
+    ensures { λ r. ⌜ r ≡ isHeader count ⌝ }
+{
+    count == Header::NUMBERS
+}
+
+// The header's tests over the whole text, last test first, and the header where it is granted. The schedule's numbers are kept.
+fn judge_header(text: &[u8], kept: &mut [i32]) -> Heading
+    requires { ⌜ scheduleRoom ≡ length (now kept) ⌝ }
+    ensures { λ r. ⌜ FoundHeading (now (text .entry)) (now (kept .entry)) r (now (kept .exit)) ⌝ }
 {
     let n = text.len();
     if n > Header::BYTES {
@@ -280,25 +277,26 @@ fn judge_header(text: &[u8]) -> Heading
     let head = find_head(text);
     let row = read_row(text, head.place);
     let opening = opening_of(row);
-    let survey = count_numbers(
+    let found = read_numbers(
         text,
         row.end,
         head.line + 1,
         numbers::natural(opening.teams),
+        kept,
     );
     let granted = Verdict { code: 0, line: 0 };
     let limits = ruled_by(!opening.is_good(), 20, head.line, granted);
-    let numbers = ruled_by(row.count != Header::NUMBERS, 24, head.line, limits);
-    let fault = ruled_by(row.fault != 0, row.fault, head.line, survey.fault);
+    let numbers = ruled_by(!is_header(row.count), 24, head.line, limits);
+    let fault = ruled_by(row.fault != 0, row.fault, head.line, found.fault);
     let verdict = refused_or(fault, numbers);
-    let tally = survey.tally;
-    let found = Heading {
+    let tally = found.tally;
+    let heading = Heading {
         verdict,
         opening,
         tally,
         end: row.end,
     };
-    if_granted(found, n)
+    if_granted(heading, n)
 }
 
 // ---- The readers.
@@ -306,7 +304,8 @@ fn judge_header(text: &[u8]) -> Heading
 pub fn read_header(text: &[u8]) -> Header
     ensures { λ r. ⌜ r ≡ headerOf (now (text .entry)) ⌝ }
 {
-    let h = judge_header(text);
+    let mut kept = no_numbers();
+    let h = judge_header(text, &mut kept);
     let opening = h.opening;
     Header {
         code: h.verdict.code,
@@ -319,7 +318,8 @@ pub fn read_header(text: &[u8]) -> Header
 pub fn rest(text: &[u8]) -> &[u8]
     ensures { λ r. ⌜ RestItself (text .entry) r ⌝ }
 {
-    let h = judge_header(text);
+    let mut kept = no_numbers();
+    let h = judge_header(text, &mut kept);
     let from = h.end;
     &text[from..]
 }
@@ -327,16 +327,16 @@ pub fn rest(text: &[u8]) -> &[u8]
 pub fn read_schedule(text: &[u8], area: &mut [i32]) -> Schedule
     ensures { λ r. ⌜ (r ≡ scheduleOf (length (now (area .entry))) (now (text .entry))) × (now (area .exit) ≡ areaOf (now (text .entry)) (now (area .entry))) ⌝ }
 {
-    let h = judge_header(text);
+    let mut kept = no_numbers();
+    let h = judge_header(text, &mut kept);
     let opening = h.opening;
-    let from = h.end;
     let tally = h.tally;
     let granted = Verdict { code: 0, line: 0 };
     let room = ruled_by(area.len() < tally.count, 27, 0, granted);
     let body = ruled_by(tally.stranger != 0, 26, tally.stranger, room);
     let verdict = refused_or(h.verdict, body);
     if verdict.code == 0 {
-        fill(text, from, area);
+        fill(&kept, tally.count, area);
         Schedule {
             code: 0,
             line: 0,

@@ -23,7 +23,7 @@ use Rattle.text_rules.specs.Answers.{headerOf, restPlace, restOf, schedu
 use Rattle.text_rules.specs.declared.Kind.the-variants as kind
 use Rattle.text_rules.specs.Tokens.{tokenOf, tokenAt}
 use Rattle.text_rules.specs.Demands.{scheduleRoom, SameButComments, nothing, same, other, CommentsNeverMatter, RefusedChangesNothing, AllTeams, none, more, GrantedIsWithinLimits, AllExact, exact, GrantedIsExact, NeverShort, HalfIsEnough, Scans, ended, found, tokensOf, ScannerFindsTheMarks}
-use Rattle.text_rules.proofs.Marks.{later, moves, at-end}
+use Rattle.text_rules.proofs.Marks.{later, moves, at-end, passed-over}
 use Rattle.text_rules.proofs.Digits.{small-value}
 use Rattle.text_rules.proofs.Granted.{passed, header-granted, schedule-granted, granted-is}
 
@@ -46,25 +46,6 @@ added-same true Digit b s t r ms = refl
 added-same false Digit b s t r ms = rw (same-length r, same-start r)
 added-same true Other b s t r ms = refl
 added-same false Other b s t r ms = rw (same-length r)
-
--- inside a comment, a byte that is no LF says nothing, and the comment goes on
-record Quiet (k : Class) : Type 0 where
-  says : (b : ℕ) (bs : List ℕ) (ms : List Mark) → added true k b bs ms ≡ ms
-  stays : inComment true k ≡ true
-
-quiet : (h w d : Bool) → Quiet (cond h Hash (cond w Blank (cond d Digit Other)))
-quiet true w d = record { says = λ b bs ms. refl; stays = refl }
-quiet false true d = record { says = λ b bs ms. refl; stays = refl }
-quiet false false true = record { says = λ b bs ms. refl; stays = refl }
-quiet false false false = record { says = λ b bs ms. refl; stays = refl }
-
-quiet-byte : (b : ℕ) → eqb b 10 ≡ false → Quiet (classOf b)
-unfolding classOf
-quiet-byte b e = rw e (quiet (eqb b 35) (isBlank b) (isNumeral b))
-
-passed-over : (b : ℕ) (bs : List ℕ) → eqb b 10 ≡ false → marksFrom true (b ∷ bs) ≡ marksFrom true bs
-unfolding marksFrom
-passed-over b bs e = let q = quiet-byte b e in rw (q .stays) (q .says b bs (marksFrom true bs))
 
 pub same-marks : {c : Bool} {s t : List ℕ} → SameButComments c s t → marksFrom c s ≡ marksFrom c t
 unfolding marksFrom
@@ -212,10 +193,13 @@ after-fewer (lineEnd k ∷ ms) = omega arith
 after-fewer (number ds k ∷ ms) = omega (arith, after-fewer ms)
 after-fewer (wrong k ∷ ms) = after-fewer ms
 
+pub few-numbers : (room : ℕ) (text : List ℕ) → length text < 2 * room → count (marks text) ≤ room
+few-numbers room text h = omega (arith, few-marks false text, begun-most false text)
+
 enough : (room : ℕ) (text : List ℕ) → length text < 2 * room → length (scheduleNumbers (marks text)) ≤ room
 enough room text h =
     let ms = marks text in
-    omega (arith, after-fewer (fromHead ms), head-fewer ms, few-marks false text, begun-most false text)
+    omega (arith, after-fewer (fromHead ms), head-fewer ms, few-numbers room text h)
 
 -- 27 is given by no other test
 Short : Verdict → Type 0

@@ -1,6 +1,7 @@
 -- Laws of the marks: what follows the first mark of a text, and where.
 use mathlib.Core.Path.{_≡_, refl, sym, ap, _∙_}
 use mathlib.Core.Bool.{Bool, true, false, cond}
+use lib.Dec.{eqb}
 use mathlib.Core.List.{List, [], _∷_}
 use Prim.Native.Nat.{ℕ, zero, suc, _+_, _-_, _≤_, _<_}
 use native.Mathlib.Numerals.{add-one}
@@ -10,7 +11,7 @@ use lib.Seq.{drop-drop, drop-cons}
 use Rattle.text_rules.specs.declared.Class.{Class}
 use Rattle.text_rules.specs.declared.Class.the-variants.{LineEnd, Hash, Blank, Digit, Other}
 use Rattle.text_rules.specs.declared.Token.{Token}
-use Rattle.text_rules.specs.Bytes.{classOf}
+use Rattle.text_rules.specs.Bytes.{isNumeral, isBlank, classOf}
 use Rattle.text_rules.specs.Marks.{Mark, lineEnd, number, wrong, inComment, startsDigit, longer, added, marksFrom, marks}
 use Rattle.text_rules.specs.Tokens.{tokenOf, tokenAt}
 
@@ -114,3 +115,24 @@ at-byte text i c h = rw (add-one i, drop-cons text i 0 h)
 pub at-end : (text : List ℕ) (i : ℕ) (c : Bool) → length text ≤ i → marksFrom c (drop i text) ≡ []
 unfolding marksFrom
 at-end text i c h = rw (drop-of-length-le text h)
+
+-- ---- comments
+
+-- inside a comment, a byte that is no LF says nothing, and the comment goes on
+record Quiet (k : Class) : Type 0 where
+  says : (b : ℕ) (bs : List ℕ) (ms : List Mark) → added true k b bs ms ≡ ms
+  stays : inComment true k ≡ true
+
+quiet : (h w d : Bool) → Quiet (cond h Hash (cond w Blank (cond d Digit Other)))
+quiet true w d = record { says = λ b bs ms. refl; stays = refl }
+quiet false true d = record { says = λ b bs ms. refl; stays = refl }
+quiet false false true = record { says = λ b bs ms. refl; stays = refl }
+quiet false false false = record { says = λ b bs ms. refl; stays = refl }
+
+quiet-byte : (b : ℕ) → eqb b 10 ≡ false → Quiet (classOf b)
+unfolding classOf
+quiet-byte b e = rw e (quiet (eqb b 35) (isBlank b) (isNumeral b))
+
+pub passed-over : (b : ℕ) (bs : List ℕ) → eqb b 10 ≡ false → marksFrom true (b ∷ bs) ≡ marksFrom true bs
+unfolding marksFrom
+passed-over b bs e = let q = quiet-byte b e in rw (q .stays) (q .says b bs (marksFrom true bs))

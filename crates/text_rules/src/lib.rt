@@ -48,9 +48,14 @@ impl Token {
     // The most digits of a number.
     pub const DIGITS: usize = 10;
     // The largest number.
-    pub const LARGEST: u64 = 2147483647;
+    pub const LARGEST: u32 = 2147483647;
     // What a number that is refused is read as: it is too large by itself.
     pub const REFUSED: u32 = 2147483648;
+}
+
+impl Schedule {
+    // No text has more numbers behind its header.
+    pub const ROOM: usize = 32768;
 }
 
 impl Header {

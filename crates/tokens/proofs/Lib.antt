@@ -1,3 +1,6 @@
 pub mod Classes
+pub mod Fronts
 pub mod Values
-pub mod Scanning
+pub mod Running
+pub mod Says
+pub mod Skipping

@@ -8,7 +8,7 @@ use lib.Dec.{ltb}
 use lib.ListN.{length}
 use borrow.Author.Tests.{lt-ltb, ltb-true, ltb-false}
 use Rattle.text_rules.specs.Digits.{maxDigits, maxNumber, refusedNumber, valueFrom, value, tooLarge, numberOf}
-use Rattle.tokens.specs.Scan.{grown, grownBy, readAs}
+use Rattle.tokens.specs.Scan.{grown, grownBy, mostGrown, readAs}
 
 -- v stands for x: it is x, or both are too large
 data Stands : ℕ → ℕ → Type 0 where
@@ -38,9 +38,9 @@ unfolding tooLarge numberOf
 read-number ds = read-stands (ltb maxDigits (length ds)) (grownBy 0 ds) (value ds) (stands-from ds 0 0 same)
 
 -- a value of this size fits, and so does the next
-small-next : (t : Bool) (v b : ℕ) → ltb maxNumber v ≡ t → b < 256 → v ≤ 21474837000 → cond t v (v * 10 + (b - 48)) ≤ 21474837000
+small-next : (t : Bool) (v b : ℕ) → ltb maxNumber v ≡ t → b ≤ 57 → v ≤ mostGrown → cond t v (v * 10 + (b - 48)) ≤ mostGrown
 small-next true v b e h k = k
 small-next false v b e h k = let l = ltb-false maxNumber v e in omega arith
 
-pub grown-small : (v b : ℕ) → b < 256 → v ≤ 21474837000 → grown v b ≤ 21474837000
+pub grown-small : (v b : ℕ) → b ≤ 57 → v ≤ mostGrown → grown v b ≤ mostGrown
 grown-small v b h k = small-next (ltb maxNumber v) v b refl h k

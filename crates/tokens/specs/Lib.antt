@@ -1,3 +1,2 @@
--- What the code computes on its way to a token, byte by byte, and what it asks of one.
+-- What the code finds on its way to a token, byte by byte.
 pub mod Scan
-pub mod Asked

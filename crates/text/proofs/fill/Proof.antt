@@ -1,113 +1,81 @@
--- Each number goes into its place of the area.
-use mathlib.Core.Path.{refl, sym, _∙_}
-use mathlib.Core.Bool.{false}
-use Prim.Native.Nat.{_-_}
+-- A copy, number by number.
+use mathlib.Core.Path.{_≡_, sym, ap, _∙_}
+use mathlib.Core.List.{List, _++_}
+use Prim.Native.Nat.{ℕ, _+_, _-_, _≤_, _<_}
+use native.Mathlib.Nat.{zero-add}
+use native.Mathlib.Numerals.{add-one}
 use native.Mathlib.Omega.{arith}
-use lib.ListN.{length, drop}
+use lib.IntN.{ℤ, pos}
+use lib.ListN.{length, getD, set, take, drop}
+use lib.Seq.{paste, paste-zero, paste-suc, length-paste}
 use borrow.Author.Needs.{needs}
 use Rattle.numbers.proofs.Signed.{told}
-use Rattle.text_rules.specs.Marks.{marks}
-use Rattle.text_rules.proofs.Marks.{moves, at-end}
-use Rattle.text.proofs.Passing.{Filling, fill-number, fill-room, fill-other, fill-ends}
 use Rattle.text.proofs.fill.Statement.{statement}
 use Rattle.text.proofs.fill.Tie as tie
 
+-- so many numbers were copied
+record Copied (kept : List ℤ) (count : ℕ) (before area : List ℤ) (i : ℕ) : Type 0 where
+  most : i ≤ count
+  same : area ≡ paste before 0 kept i
+
+copied-size : (kept : List ℤ) (count : ℕ) (before area : List ℤ) (i : ℕ) → Copied kept count before area i → count ≤ length kept → count ≤ length before → length area ≡ length before
+copied-size kept count before area i r h k =
+    rw (r .same) (length-paste before 0 kept i (omega (arith, r .most, k)) (omega (arith, r .most, h)))
+
+copy-next : (kept : List ℤ) (count : ℕ) (before area : List ℤ) (i : ℕ) → Copied kept count before area i → count ≤ length kept → count ≤ length before → i < count → Copied kept count before (set area i (getD kept i (pos 0))) (i + 1)
+copy-next kept count before area i r h k l =
+    let next = paste-suc before 0 kept i (pos 0) (omega (arith, l, k)) (omega (arith, l, h)) in
+    let here = ap (λ (k : ℕ). set (paste before 0 kept i) k (getD kept i (pos 0))) (sym (zero-add i)) in
+    record { most = omega (arith, l); same = rw (r .same, add-one i) (here ∙ next) }
+
+copy-ends : (kept : List ℤ) (count : ℕ) (before area : List ℤ) (i : ℕ) → Copied kept count before area i → count ≤ i → area ≡ take count kept ++ drop count before
+copy-ends kept count before area i r h =
+    let all : i ≡ count = omega (arith, r .most, h) in
+    r .same ∙ rw (all, zero-add count)
+
 abbrev Inv-loop : tie.InvT-loop
-Inv-loop text from area₀ place₀ count₀ area place count = Filling text (marks (drop from text)) area₀ area place count
+Inv-loop kept count area₀ i₀ area i = Copied kept count area₀ area i
 
 abbrev μ-loop : tie.MeasureT-loop
-μ-loop text from area₀ place₀ count₀ area place count = length text - place
+μ-loop kept count area₀ i₀ area i = count - i
 
 loop-holds : tie.Need-loop-holds Inv-loop μ-loop
-loop-holds c = record { within = search needs; room = omega arith; size = refl; same = refl }
+loop-holds c = record { most = omega arith; same = paste-zero _ 0 (c .args .kept .now) }
 
-token-at-requires : tie.Need-token-at-requires Inv-loop μ-loop
-token-at-requires c κs = search needs
+mul-area : tie.Need-mul-area Inv-loop μ-loop
+mul-area c = omega (arith, c .loop-test .taken, c .before .before .pre .0)
 
-is-number-requires : tie.Need-is-number-requires Inv-loop μ-loop
-is-number-requires c κs = search needs
+shared-slice-copy-out-area : tie.Need-shared-slice-copy-out-area Inv-loop μ-loop
+shared-slice-copy-out-area c = omega (arith, c .loop-test .taken, c .before .before .pre .0)
 
-to-signed-requires : tie.Need-to-signed-requires Inv-loop μ-loop
-to-signed-requires c κs = search needs
-
-mul-t11 : tie.Need-mul-t11 Inv-loop μ-loop
-mul-t11 c =
-    let a = c .before .before .before .before .before .before .before .args in
-    let text = a .text .now in
-    let l = c .before .before .before .before .before .loop in
-    let m = moves text (l .place) (c .before .before .before .before .loop-test .taken) (c .before .before .before .token-at .result) (c .before .before .before .token-at .ensures) in
-    let room = fill-room text (marks (drop (a .from) text)) (a .area .now) (l .area) (l .place) (l .count) _ (l .inv) m (sym (c .before .before .is-number .ensures) ∙ c .before .if1 .taken) in
-    omega (arith, room, l .inv .size, c .before .before .before .before .before .before .before .good .1 .1 .0 .1)
+mul-t9 : tie.Need-mul-t9 Inv-loop μ-loop
+mul-t9 c = omega (arith, c .before .loop-test .taken, c .before .before .before .pre .0)
 
 slice-set-from-area : tie.Need-slice-set-from-area Inv-loop μ-loop
 slice-set-from-area c =
-    let a = c .before .before .before .before .before .before .before .args in
-    let text = a .text .now in
-    let l = c .before .before .before .before .before .loop in
-    let m = moves text (l .place) (c .before .before .before .before .loop-test .taken) (c .before .before .before .token-at .result) (c .before .before .before .token-at .ensures) in
-    fill-room text (marks (drop (a .from) text)) (a .area .now) (l .area) (l .place) (l .count) _ (l .inv) m (sym (c .before .before .is-number .ensures) ∙ c .before .if1 .taken)
+    let l = c .before .before .loop in
+    let s = c .before .before .before in
+    omega (arith, c .before .loop-test .taken, s .pre .1, copied-size _ _ _ _ (l .i) (l .inv) (s .pre .0) (s .pre .1))
 
-add-count : tie.Need-add-count Inv-loop μ-loop
-add-count c =
-    let a = c .before .before .before .before .before .before .before .args in
-    let text = a .text .now in
-    let l = c .before .before .before .before .before .loop in
-    let m = moves text (l .place) (c .before .before .before .before .loop-test .taken) (c .before .before .before .token-at .result) (c .before .before .before .token-at .ensures) in
-    let room = fill-room text (marks (drop (a .from) text)) (a .area .now) (l .area) (l .place) (l .count) _ (l .inv) m (sym (c .before .before .is-number .ensures) ∙ c .before .if1 .taken) in
-    omega (arith, room, l .inv .size, c .before .before .before .before .before .before .before .good .1 .1 .0 .0)
+add-i : tie.Need-add-i Inv-loop μ-loop
+add-i c = omega (arith, c .before .loop-test .taken, c .before .before .before .pre .0)
 
 loop-less : tie.Need-loop-less Inv-loop μ-loop
-loop-less c =
-    let a = c .before .before .before .before .before .before .before .args in
-    let text = a .text .now in
-    let l = c .before .before .before .before .before .loop in
-    let m = moves text (l .place) (c .before .before .before .before .loop-test .taken) (c .before .before .before .token-at .result) (c .before .before .before .token-at .ensures) in
-    omega (arith, m .further)
+loop-less c = omega (arith, c .before .loop-test .taken)
 
 loop-again : tie.Need-loop-again Inv-loop μ-loop
 loop-again c =
-    let a = c .before .before .before .before .before .before .before .args in
-    let text = a .text .now in
-    let l = c .before .before .before .before .before .loop in
-    let m = moves text (l .place) (c .before .before .before .before .loop-test .taken) (c .before .before .before .token-at .result) (c .before .before .before .token-at .ensures) in
-    rw
-    (told (c .to-signed .result) (c .to-signed .ok), c .to-signed .ensures)
-    (fill-number text (marks (drop (a .from) text)) (a .area .now) (l .area) (l .place) (l .count) _ (l .inv) m (sym (c .before .before .is-number .ensures) ∙ c .before .if1 .taken))
-
-loop-less-2 : tie.Need-loop-less-2 Inv-loop μ-loop
-loop-less-2 c =
-    let a = c .before .before .before .before .before .before .args in
-    let text = a .text .now in
-    let l = c .before .before .before .before .loop in
-    let m = moves text (l .place) (c .before .before .before .loop-test .taken) (c .before .before .token-at .result) (c .before .before .token-at .ensures) in
-    omega (arith, m .further)
-
-loop-again-2 : tie.Need-loop-again-2 Inv-loop μ-loop
-loop-again-2 c =
-    let a = c .before .before .before .before .before .before .args in
-    let text = a .text .now in
-    let l = c .before .before .before .before .loop in
-    let m = moves text (l .place) (c .before .before .before .loop-test .taken) (c .before .before .token-at .result) (c .before .before .token-at .ensures) in
-    fill-other text (marks (drop (a .from) text)) (a .area .now) (l .area) (l .place) (l .count) _ (l .inv) m (sym (c .before .is-number .ensures) ∙ c .if1 .left)
+    let l = c .before .before .loop in
+    let s = c .before .before .before in
+    rw (told _ (c .area .given)) (copy-next _ _ _ _ (l .i) (l .inv) (s .pre .0) (s .pre .1) (c .before .loop-test .taken))
 
 same-length : tie.Need-same-length Inv-loop μ-loop
-same-length c = c .before .loop .inv .size
+same-length c =
+    let s = c .before .before in
+    copied-size _ _ _ _ (c .before .loop .i) (c .before .loop .inv) (s .pre .0) (s .pre .1)
 
 returns : tie.Need-returns Inv-loop μ-loop
-returns c =
-    let a = c .before .before .before .args in
-    let text = a .text .now in
-    let l = c .before .loop in
-    fill-ends
-    text
-    (marks (drop (a .from) text))
-    (a .area .now)
-    (l .area)
-    (l .place)
-    (l .count)
-    (l .inv)
-    (c .before .before .before .pre .1)
-    (at-end text (l .place) false (c .loop-test .left))
+returns c = copy-ends _ _ _ _ (c .before .loop .i) (c .before .loop .inv) (c .loop-test .left)
 
 pub fill-spec : {M : Type 1} → statement M
 fill-spec =
@@ -116,15 +84,12 @@ fill-spec =
     Inv-loop
     μ-loop
     loop-holds
-    token-at-requires
-    is-number-requires
-    to-signed-requires
-    mul-t11
+    mul-area
+    shared-slice-copy-out-area
+    mul-t9
     slice-set-from-area
-    add-count
+    add-i
     loop-less
     loop-again
-    loop-less-2
-    loop-again-2
     same-length
     returns)

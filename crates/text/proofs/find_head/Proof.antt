@@ -1,69 +1,99 @@
--- The first number or wrong byte is the head; each other token is passed with its line.
-use mathlib.Core.Path.{_≡_, refl}
-use mathlib.Core.Bool.{false, _||_}
-use Prim.Native.Nat.{_-_}
+-- Comments, line ends and blanks are passed; any other byte is the head.
+use mathlib.Core.Path.{refl, sym, _∙_}
+use mathlib.Core.List.{List}
+use Prim.Native.Nat.{ℕ, _-_}
 use native.Mathlib.Omega.{arith}
 use lib.ListN.{length}
+use borrow.Author.Tests.{ne-eqb}
 use borrow.Author.Needs.{needs}
-use Rattle.tokens.specs.Asked.{isNumber, isWrong}
-use Rattle.text_rules.proofs.Marks.{Moves, moves, at-end}
-use Rattle.text.proofs.Passing.{Seeking, seek-next, seek-here, seek-none}
+use Rattle.tokens.proofs.Says.{Silent, says-line, silent-comment, silent-blank}
+use Rattle.text.proofs.Passing.{Seeking, seek-silent, seek-line, seek-here, seek-none}
 use Rattle.text.proofs.find_head.Statement.{statement}
 use Rattle.text.proofs.find_head.Tie as tie
 
 abbrev Inv-loop : tie.InvT-loop
-Inv-loop text place₀ line₀ place line = Seeking text place line
+Inv-loop text i₀ line₀ i line = Seeking text i line
 
 abbrev μ-loop : tie.MeasureT-loop
-μ-loop text place₀ line₀ place line = length text - place
+μ-loop text i₀ line₀ i line = length text - i
 
--- a token was read, and both tests were made
-abbrev Tested : Type 0
-Tested = tie.After-is-wrong Inv-loop μ-loop
+-- the byte at i was read
+abbrev Read : Type 0
+Read = tie.After-shared-slice-known2 Inv-loop μ-loop
 
-abbrev looped : Tested → tie.At-loop Inv-loop μ-loop
-looped c = c .before .before .before .before
+abbrev looped : Read → tie.At-loop Inv-loop μ-loop
+looped c = c .before .before
 
-moved : (c : Tested) → Moves (looped c .before .before .args .text .now) (looped c .loop .place) (c .before .before .token-at .result)
-moved c = moves _ _ (c .before .before .before .loop-test .taken) _ (c .before .before .token-at .ensures)
+abbrev text : Read → List ℕ
+text c = looped c .before .before .args .text .now
 
-tests : (c : Tested) → (c .before .is-number .result || c .is-wrong .result) ≡ (isNumber (c .before .before .token-at .result .kind) || isWrong (c .before .before .token-at .result .kind))
-tests c = rw (c .before .is-number .ensures, c .is-wrong .ensures)
+comment : (c : tie.After-comment-end Inv-loop μ-loop) → let r = c .before .before in Silent (text r) (looped r .loop .i) (c .comment-end .result)
+comment c =
+    let r = c .before .before in
+    rw (c .comment-end .ensures) (silent-comment (text r) (looped r .loop .i) (r .before .loop-test .taken) (c .before .if1 .taken))
 
 loop-holds : tie.Need-loop-holds Inv-loop μ-loop
 loop-holds c = record { within = omega arith; most = omega arith; fault = refl; head = refl; from = refl }
 
-token-at-requires : tie.Need-token-at-requires Inv-loop μ-loop
-token-at-requires c κs = search needs
+shared-slice-read-b : tie.Need-shared-slice-read-b Inv-loop μ-loop
+shared-slice-read-b c = search needs
 
-is-number-requires : tie.Need-is-number-requires Inv-loop μ-loop
-is-number-requires c κs = search needs
-
-is-wrong-requires : tie.Need-is-wrong-requires Inv-loop μ-loop
-is-wrong-requires c κs = search needs
-
-returns : tie.Need-returns Inv-loop μ-loop
-returns c =
-    let l = looped (c .before) in
-    seek-here _ (l .loop .place) (l .loop .line) _ (l .before .before .pre) (c .before .before .before .before .loop-test .taken) (l .loop .inv) (moved (c .before)) (rw (tests (c .before)) at (c .if1 .taken))
-
-line-after-requires : tie.Need-line-after-requires Inv-loop μ-loop
-line-after-requires c κs = search needs
+comment-end-requires : tie.Need-comment-end-requires Inv-loop μ-loop
+comment-end-requires c κs = search needs
 
 loop-less : tie.Need-loop-less Inv-loop μ-loop
-loop-less c = omega (arith, moved (c .before .before) .further)
+loop-less c = omega (arith, comment c .further)
 
 loop-again : tie.Need-loop-again Inv-loop μ-loop
 loop-again c =
-    let t = c .before .before in
-    let l = looped t .loop in
-    rw (c .line-after .ensures) (seek-next _ (l .place) (l .line) _ (l .inv) (moved t) (rw (tests t) at (c .before .if1 .left)))
+    let l = looped (c .before .before) .loop in
+    seek-silent (text (c .before .before)) (l .i) (l .line) (l .inv) _ (comment c)
+
+add-line : tie.Need-add-line Inv-loop μ-loop
+add-line c =
+    let r = c .before .before in
+    omega (arith, looped r .loop .inv .most, r .before .loop-test .taken, looped r .before .before .pre)
+
+add-i : tie.Need-add-i Inv-loop μ-loop
+add-i c = omega arith
+
+loop-less-2 : tie.Need-loop-less-2 Inv-loop μ-loop
+loop-less-2 c = omega arith
+
+loop-again-2 : tie.Need-loop-again-2 Inv-loop μ-loop
+loop-again-2 c =
+    let r = c .before .before in
+    let l = looped r .loop in
+    seek-line (text r) (l .i) (l .line) (l .inv) _ _ (says-line (text r) (l .i) (r .before .loop-test .taken) (c .if2 .taken))
+
+is-blank-requires : tie.Need-is-blank-requires Inv-loop μ-loop
+is-blank-requires c κs = search needs
+
+add-i-2 : tie.Need-add-i-2 Inv-loop μ-loop
+add-i-2 c = omega arith
+
+loop-less-3 : tie.Need-loop-less-3 Inv-loop μ-loop
+loop-less-3 c = omega arith
+
+loop-again-3 : tie.Need-loop-again-3 Inv-loop μ-loop
+loop-again-3 c =
+    let r = c .before .before .before .before in
+    let l = looped r .loop in
+    seek-silent (text r) (l .i) (l .line) (l .inv) _ (silent-blank (text r) (l .i) (r .before .loop-test .taken) (sym (c .before .is-blank .ensures) ∙ c .if3 .taken))
+
+returns : tie.Need-returns Inv-loop μ-loop
+returns c =
+    let r = c .before .before .before .before in
+    let l = looped r .loop in
+    seek-here (text r) (l .i) (l .line) (l .inv) (looped r .before .before .pre) (r .before .loop-test .taken)
+    (ne-eqb _ 35 (c .before .before .before .if1 .left))
+    (ne-eqb _ 10 (c .before .before .if2 .left))
+    (sym (c .before .is-blank .ensures) ∙ c .if3 .left)
 
 returns-2 : tie.Need-returns-2 Inv-loop μ-loop
 returns-2 c =
-    let text = c .before .before .before .args .text .now in
     let l = c .before .loop in
-    seek-none text (l .place) (l .line) (l .inv) (at-end text (l .place) false (c .loop-test .left))
+    seek-none (c .before .before .before .args .text .now) (l .i) (l .line) (l .inv) (c .loop-test .left)
 
 pub find-head-spec : {M : Type 1} → statement M
 find-head-spec =
@@ -72,11 +102,17 @@ find-head-spec =
     Inv-loop
     μ-loop
     loop-holds
-    token-at-requires
-    is-number-requires
-    is-wrong-requires
-    returns
-    line-after-requires
+    shared-slice-read-b
+    comment-end-requires
     loop-less
     loop-again
+    add-line
+    add-i
+    loop-less-2
+    loop-again-2
+    is-blank-requires
+    add-i-2
+    loop-less-3
+    loop-again-3
+    returns
     returns-2)

@@ -14,10 +14,10 @@ use Rattle.text.proofs.judge_header.Tie as tie
 
 -- the passes over the text were made
 abbrev Passed : Type 0
-Passed = tie.After-count-numbers
+Passed = tie.After-read-numbers
 
 abbrev opened : Passed → tie.After-opening-of
-opened c = c .before .before .before .before
+opened c = c .before .before .before .before .before
 
 abbrev rowed : Passed → tie.After-read-row
 rowed c = opened c .before
@@ -28,26 +28,27 @@ headed c = rowed c .before
 abbrev text : Passed → List ℕ
 text c = headed c .before .before .before .args .text .now
 
-teams : (c : Passed) → c .before .natural .result ≡ natOf (opened c .opening-of .result .teams)
+teams : (c : Passed) → c .before .before .natural .result ≡ natOf (opened c .opening-of .result .teams)
 teams c =
-    c .before .natural .ensures ∙ rw (told (opened c .opening-of .result .teams) (c .before .before .struct-told .given .1 .1 .0 .1))
+    c .before .before .natural .ensures ∙ rw (told (opened c .opening-of .result .teams) (c .before .before .before .struct-told .given .1 .1 .0 .1))
 
 -- the tests were made
 abbrev Tested : Type 0
 Tested = tie.After-refused-or
 
 abbrev passed : Tested → Passed
-passed c = c .before .before .before .before .before .before .before
+passed c = c .before .before .before .before .before .before .before .before
 
 verdict : (c : Tested) → c .refused-or .result ≡ headerVerdict (length (text (passed c))) (marks (text (passed c)))
 verdict c =
     let p = passed c in
     let head = headed p .find-head in
     let row = rowed p .read-row in
-    found-verdict (text p) _ (head .result) (row .result) (p .count-numbers .result) (head .ensures) (row .ensures) (p .count-numbers .ensures) (headed p .before .if1 .left) (opened p .opening-of .result) _ _ _ _ _
+    found-verdict (text p) _ (head .result) (row .result) _ (p .read-numbers .result) _ (head .ensures) (row .ensures) (p .read-numbers .ensures) (headed p .before .if1 .left) (opened p .opening-of .result) _ _ _ _ _ _
     (opened p .opening-of .ensures)
     (c .before .before .before .before .before .before .is-good .ensures)
     (c .before .before .before .before .before .ruled-by .ensures)
+    (c .before .before .before .before .is-header .ensures)
     (c .before .before .before .ruled-by2 .ensures)
     (c .before .ruled-by3 .ensures)
     (c .refused-or .ensures)
@@ -58,7 +59,7 @@ refused-requires c κs = search needs
 returns : tie.Need-returns
 returns c =
     let text = c .before .before .before .args .text .now in
-    rw (c .refused .ensures) (refused-heading text (ruled 21 0) (long-verdict (length text) (marks text) (c .before .if1 .taken)) refl)
+    rw (c .refused .ensures) (refused-heading text _ _ (ruled 21 0) (long-verdict (length text) (marks text) (c .before .if1 .taken)) refl)
 
 find-head-requires : tie.Need-find-head-requires
 find-head-requires c κs = search needs
@@ -69,20 +70,23 @@ read-row-requires c κs = search needs
 opening-of-requires : tie.Need-opening-of-requires
 opening-of-requires c κs = search needs
 
-add-count-numbers : tie.Need-add-count-numbers
-add-count-numbers c = search needs
+add-read-numbers : tie.Need-add-read-numbers
+add-read-numbers c = search needs
 
 natural-requires : tie.Need-natural-requires
 natural-requires c κs = search needs
 
-count-numbers-requires : tie.Need-count-numbers-requires
-count-numbers-requires c κs = search needs
+read-numbers-requires : tie.Need-read-numbers-requires
+read-numbers-requires c κs = search needs
 
 is-good-requires : tie.Need-is-good-requires
 is-good-requires c κs = search needs
 
 ruled-by-requires : tie.Need-ruled-by-requires
 ruled-by-requires c κs = search needs
+
+is-header-requires : tie.Need-is-header-requires
+is-header-requires c κs = search needs
 
 ruled-by-requires-2 : tie.Need-ruled-by-requires-2
 ruled-by-requires-2 c κs = search needs
@@ -102,7 +106,10 @@ returns-2 c =
     let p = passed v in
     rw
     (c .if-granted .ensures)
-    (found-heading (text p) (p .before .natural .result) (headed p .find-head .result) (rowed p .read-row .result) (p .count-numbers .result) (headed p .find-head .ensures) (rowed p .read-row .ensures) (p .count-numbers .ensures) (v .refused-or .result) (opened p .opening-of .result) (opened p .opening-of .ensures) (teams p) (verdict v))
+    (found-heading (text p) (p .before .before .natural .result) (headed p .find-head .result) (rowed p .read-row .result) _ (p .read-numbers .result) _ (headed p .find-head .ensures) (rowed p .read-row .ensures) (p .read-numbers .ensures) (v .refused-or .result) (opened p .opening-of .result) (opened p .opening-of .ensures) (teams p) (verdict v))
+
+same-length : tie.Need-same-length
+same-length c = search needs
 
 pub judge-header-spec : {M : Type 1} → statement M
 judge-header-spec =
@@ -113,13 +120,15 @@ judge-header-spec =
     find-head-requires
     read-row-requires
     opening-of-requires
-    add-count-numbers
+    add-read-numbers
     natural-requires
-    count-numbers-requires
+    read-numbers-requires
     is-good-requires
     ruled-by-requires
+    is-header-requires
     ruled-by-requires-2
     ruled-by-requires-3
     refused-or-requires
     if-granted-requires
+    same-length
     returns-2)

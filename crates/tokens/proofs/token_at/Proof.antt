@@ -1,72 +1,47 @@
 -- The byte at which the skipping stops makes the token: by itself, or with the run of digits that it begins.
-use mathlib.Core.Path.{_≡_}
-use mathlib.Core.Bool.{true, false}
-use Prim.Native.Nat.{_<_}
-use lib.ListN.{length, getD}
-use Rattle.text_rules.specs.Bytes.{classOf, isDigit}
-use Rattle.tokens.specs.Scan.{kindOf}
-use Rattle.tokens.proofs.Scanning.{run-ends, token-number, token-none, token-alone}
+use mathlib.Core.Path.{sym, _∙_}
+use mathlib.Core.List.{List}
+use Prim.Native.Nat.{ℕ}
 use borrow.Author.Needs.{needs}
+use Rattle.tokens.proofs.Skipping.{token-none, token-number, token-alone}
 use Rattle.tokens.proofs.token_at.Statement.{statement}
 use Rattle.tokens.proofs.token_at.Tie as tie
+
+abbrev text : tie.After-skipped → List ℕ
+text c = c .before .before .args .text .now
 
 skipped-requires : tie.Need-skipped-requires
 skipped-requires c κs = search needs
 
 returns : tie.Need-returns
-returns c =
-    let s = c .before .skipped in
-    token-none (c .before .before .before .args .text .now) (s .result) _ (search needs) (s .ensures .same)
+returns c = token-none (text (c .before)) _ (c .before .skipped .result) (c .before .skipped .ensures) (c .if1 .taken)
 
-shared-slice-read-class-of : tie.Need-shared-slice-read-class-of
-shared-slice-read-class-of c = search needs
+shared-slice-read-b : tie.Need-shared-slice-read-b
+shared-slice-read-b c = search needs
 
-class-of-requires : tie.Need-class-of-requires
-class-of-requires c κs = search needs
+is-numeral-requires : tie.Need-is-numeral-requires
+is-numeral-requires c κs = search needs
 
-is-digit-requires : tie.Need-is-digit-requires
-is-digit-requires c κs = search needs
-
-run-at-requires : tie.Need-run-at-requires
-run-at-requires c κs = search needs
-
-sub-read-as : tie.Need-sub-read-as
-sub-read-as c = run-ends _ _ _ (c .before .run-at .ensures)
-
-read-as-requires : tie.Need-read-as-requires
-read-as-requires c κs = search needs
+number-at-requires : tie.Need-number-at-requires
+number-at-requires c κs = search needs
 
 returns-2 : tie.Need-returns-2
 returns-2 c =
-    let text = c .before .before .before .before .before .before .before .before .before .before .args .text .now in
-    let s = c .before .before .before .before .before .before .before .before .skipped in
-    let digit : isDigit (classOf (getD text (s .result) 0)) ≡ true = cc in
-    token-number
-    text
-    (s .result)
-    _
-    (c .before .before .run-at .result)
-    _
-    (search needs)
-    (s .ensures .same)
-    digit
-    (c .before .before .run-at .ensures)
-    (c .read-as .ensures)
+    let t = c .before .before in
+    let s = t .before .before .before in
+    token-number (text s) _ (s .skipped .result) (s .skipped .ensures) (t .before .before .if1 .left) (sym (t .is-numeral .ensures) ∙ c .before .if2 .taken) (c .number-at .result) (c .number-at .ensures)
 
 kind-of-requires : tie.Need-kind-of-requires
 kind-of-requires c κs = search needs
 
-add-t8 : tie.Need-add-t8
-add-t8 c = search needs
+add-t7 : tie.Need-add-t7
+add-t7 c = search needs
 
 returns-3 : tie.Need-returns-3
 returns-3 c =
-    let text = c .before .before .before .before .before .before .before .before .args .text .now in
-    let s = c .before .before .before .before .before .before .skipped in
-    let inside : s .result < length text = search needs in
-    let other : isDigit (classOf (getD text (s .result) 0)) ≡ false = cc in
-    let kind : c .kind-of .result ≡ kindOf (classOf (getD text (s .result) 0)) = cc in
-    rw kind (token-alone text (s .result) _ inside (s .ensures .same) (s .ensures .first inside) other)
+    let t = c .before .before in
+    let s = t .before .before .before in
+    rw (c .kind-of .ensures) (token-alone (text s) _ (s .skipped .result) (s .skipped .ensures) (t .before .before .if1 .left) (sym (t .is-numeral .ensures) ∙ c .before .if2 .left))
 
 pub token-at-spec : {M : Type 1} → statement M
 token-at-spec =
@@ -74,13 +49,10 @@ token-at-spec =
     (tie.spec
     skipped-requires
     returns
-    shared-slice-read-class-of
-    class-of-requires
-    is-digit-requires
-    run-at-requires
-    sub-read-as
-    read-as-requires
+    shared-slice-read-b
+    is-numeral-requires
+    number-at-requires
     returns-2
     kind-of-requires
-    add-t8
+    add-t7
     returns-3)
