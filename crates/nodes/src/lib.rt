@@ -1,10 +1,9 @@
 // One node: what it is, and each way to make one.
 ghost use mathlib.Core.Path.{_≡_};
-ghost use Prim.Native.Nat.{_≤_};
-ghost use Rattle.rules.specs.Limits.{maxUntil};
-ghost use Rattle.rules.specs.Nodes.{blank, fresh, owned, moved, parted, positionOf, leftOver, marked, unowned, childless, middle, leftPart, rightPart};
+ghost use Rattle.rules.specs.Nodes.{blank, owned, moved, parted, positionOf, leftOver, marked, unowned, childless, middle, leftPart};
 ghost use Rattle.rules.specs.States.{completed, stateOf, stolenOf};
 ghost use Rattle.rules.specs.Count.{restOf};
+ghost use Rattle.nodes.specs.Makers.{heldFresh, heldRight};
 use rules::Node;
 
 pub mod formed;
@@ -90,9 +89,9 @@ pub fn blank_node() -> Node
     }
 }
 
-// A start past the limits is no progress, and is never asked for.
+// A start past the limits is no progress, and is never asked for: the largest progress stands in for it.
 pub fn fresh_node(a: u32, b: u32) -> Node
-    ensures { λ r. ⌜ (a ≤ maxUntil → r ≡ fresh a b) ⌝ }
+    ensures { λ r. ⌜ r ≡ heldFresh a b ⌝ }
 {
     let p = numbers::to_signed(a);
     Node {
@@ -136,7 +135,7 @@ pub fn left_part(x: Node) -> Node
 }
 
 pub fn right_part(x: Node) -> Node
-    ensures { λ r. ⌜ (x .until ≤ maxUntil → r ≡ rightPart x) ⌝ }
+    ensures { λ r. ⌜ r ≡ heldRight x ⌝ }
 {
     fresh_node(middle_of(x), x.until)
 }
