@@ -1,9 +1,7 @@
 -- Within the limits the makers are the rules' own.
 use mathlib.Core.Path.{ap}
-use native.Mathlib.Omega.{arith}
 use lib.IntN.{ℤ}
 use Rattle.numbers.proofs.Laws.{signed-is}
-use Rattle.rules.specs.declared.Node.{Node}
 use Rattle.rules.specs.Nodes.{middle, rightPart}
 use Rattle.nodes.specs.Makers.{heldRight, FreshWithin, RightWithin}
 
@@ -11,5 +9,5 @@ pub fresh-within : FreshWithin
 fresh-within a b small = ap (λ (p : ℤ). record { start = a; until = b; progress = p; owner = 0; left = 0 }) (signed-is a small)
 
 pub right-within : RightWithin
-unfolding heldRight rightPart middle
-right-within x p u = fresh-within _ _ (omega arith)
+unfolding heldRight rightPart
+right-within x small = fresh-within (middle x) (x .until) small

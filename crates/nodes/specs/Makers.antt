@@ -5,7 +5,7 @@ use mathlib.Core.Path.{_≡_}
 use Rattle.numbers.specs.Progress.{signed}
 use Rattle.rules.specs.declared.Node.{Node}
 use Rattle.rules.specs.Limits.{maxUntil}
-use Rattle.rules.specs.Nodes.{fresh, positionOf, middle, rightPart}
+use Rattle.rules.specs.Nodes.{fresh, middle, rightPart}
 
 abbrev pub heldFresh : ℕ → ℕ → Node
 heldFresh a b = record { start = a; until = b; progress = signed a; owner = 0; left = 0 }
@@ -17,4 +17,4 @@ abbrev pub FreshWithin : Type 0
 FreshWithin = (a b : ℕ) → a ≤ maxUntil → heldFresh a b ≡ fresh a b
 
 abbrev pub RightWithin : Type 0
-RightWithin = (x : Node) → positionOf x ≤ maxUntil → x .until ≤ maxUntil → heldRight x ≡ rightPart x
+RightWithin = (x : Node) → middle x ≤ maxUntil → heldRight x ≡ rightPart x
