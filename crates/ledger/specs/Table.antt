@@ -4,12 +4,12 @@ use mathlib.Core.Bool.{cond}
 use lib.Dec.{leb}
 use Rattle.rules.specs.declared.Node.{Node}
 use Rattle.rules.specs.declared.View.{View}
-use Rattle.rules.specs.Limits.{maxNodes, otherSlots}
+use Rattle.rules.specs.Limits.{maxNodes, slotsAfter}
 use Rattle.rules.specs.Nodes.{blank}
 
 -- a slot of the table for any number: that of node n, where n has one
 abbrev pub slotFor : ℕ → ℕ
-slotFor n = min (n - 1) otherSlots
+slotFor n = min (n - 1) (slotsAfter 1)
 
 -- node n, where x stands in that slot: a number past the table has none
 abbrev pub nodeFor : ℕ → Node → Node

@@ -17,8 +17,9 @@ use rules::Node;
 use rules::Opening;
 use rules::View;
 
-// The last slot.
-const LAST: u32 = Opening::NODES as u32 - 1;
+// The slots of the table, as a number of nodes, and the last of them.
+const SLOTS: u32 = Opening::NODES as u32;
+const LAST: u32 = SLOTS - 1;
 
 // A slot of the table, whatever the number.
 pub fn slot_for(n: u32) -> usize
@@ -31,7 +32,7 @@ pub fn slot_for(n: u32) -> usize
 pub fn node_for(n: u32, x: Node) -> Node
     ensures { λ r. ⌜ r ≡ nodeFor n x ⌝ }
 {
-    if n <= Opening::NODES as u32 { x } else { nodes::blank_node() }
+    if n <= SLOTS { x } else { nodes::blank_node() }
 }
 
 // The view of a node without its children.
@@ -145,11 +146,8 @@ pub(crate) fn changed_by(l: Ledger, n: u32, c: Change) -> Ledger
     match c {
         Change::Keep => l,
         Change::Own(team) => with_node(l, n, nodes::owned_by(x, team)),
-        Change::Advance(p) => with_node(l, n, nodes::moved_to(x, numbers::to_signed(p))),
-        Change::Mark(p) => {
-            let marked = numbers::mark_of(numbers::to_signed(p));
-            with_node(l, n, nodes::moved_to(x, marked))
-        }
+        Change::Advance(p) => with_node(l, n, nodes::advanced_to(x, p)),
+        Change::Mark(p) => with_node(l, n, nodes::marked_at(x, p)),
         Change::Split(pair) => split_at(l, n, x, pair),
     }
 }

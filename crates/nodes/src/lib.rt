@@ -3,7 +3,7 @@ ghost use mathlib.Core.Path.{_≡_};
 ghost use Rattle.rules.specs.Nodes.{blank, owned, moved, parted, positionOf, leftOver, marked, unowned, childless, middle, leftPart};
 ghost use Rattle.rules.specs.States.{completed, stateOf, stolenOf};
 ghost use Rattle.rules.specs.Count.{restOf};
-ghost use Rattle.nodes.specs.Makers.{heldFresh, heldRight};
+ghost use Rattle.nodes.specs.Makers.{heldFresh, heldAdvanced, heldMarked, heldRight};
 use rules::Node;
 
 pub mod formed;
@@ -111,12 +111,26 @@ pub fn owned_by(x: Node, team: u32) -> Node
     y
 }
 
-pub fn moved_to(x: Node, p: i32) -> Node
+fn moved_to(x: Node, p: i32) -> Node
     ensures { λ r. ⌜ r ≡ moved x p ⌝ }
 {
     let mut y = x;
     y.progress = p;
     y
+}
+
+// The node, advanced to a position. As with a start, none past the limits is asked for.
+pub fn advanced_to(x: Node, p: u32) -> Node
+    ensures { λ r. ⌜ r ≡ heldAdvanced x p ⌝ }
+{
+    moved_to(x, numbers::to_signed(p))
+}
+
+// The node, marked at a position.
+pub fn marked_at(x: Node, p: u32) -> Node
+    ensures { λ r. ⌜ r ≡ heldMarked x p ⌝ }
+{
+    moved_to(x, numbers::mark_of(numbers::to_signed(p)))
 }
 
 pub fn parted_at(x: Node, left: u32) -> Node

@@ -1,9 +1,7 @@
 -- One case for each change. What is stored is within the limits, so that 32 bits hold it.
 use borrow.Author.Needs.{needs}
-use Rattle.numbers.proofs.Laws.{signed-is}
-use Rattle.numbers.proofs.Signed.{told}
-use Rattle.nodes.proofs.Makers.{right-within}
 use Rattle.rules.specs.Requests.{changed}
+use Rattle.ledger.proofs.Laws.{owned-put, advanced-put, marked-put, split-put}
 use Rattle.ledger.proofs.table.changed_by.Statement.{statement}
 use Rattle.ledger.proofs.table.changed_by.Tie as tie
 
@@ -17,23 +15,20 @@ changed-by-spec = tie.close (tie.spec
     (λ c κs. rw (c .before .before .c .given .1) at (c .before .before .before .before .before .pre))
     (λ c. search needs)
     (λ c κs. tt)
-    (λ c κs. tt)
-    (λ c κs. (rw (c .before .before .before .c2 .given .1) at (c .before .before .before .before .before .before .pre)) .0)
+    (λ c κs. (rw (c .before .before .c2 .given .1) at (c .before .before .before .before .before .pre)) .0)
     (λ c. search needs)
     (λ c κs. tt)
-    (λ c κs. tt)
-    (λ c κs. tt)
-    (λ c κs. (rw (c .before .before .before .before .c3 .given .1) at (c .before .before .before .before .before .before .before .pre)) .0)
+    (λ c κs. (rw (c .before .before .c3 .given .1) at (c .before .before .before .before .before .pre)) .0)
     (λ c. search needs)
     (λ c κs. let s = rw (c .before .c4 .given .1) at (c .before .before .before .before .pre) in (s .0, s .1, s .2))
     (λ c. rw (c .enum-told .given .1))
-    (λ c. rw (c .before .before .before .c .given .1) (cc))
+    (λ c. rw (c .before .before .before .c .given .1) (owned-put (c .before .before .before .before .before .before .args .l) (c .before .before .before .before .before .before .args .n) (c .before .before .before .before .before .node-at .ensures) (c .before .owned-by .ensures) (c .with-node .ensures)))
     (λ c.
-    let s = rw (c .before .before .before .before .c2 .given .1) at (c .before .before .before .before .before .before .before .pre) in
-    rw (c .before .before .before .before .c2 .given .1) (cc (told (c .before .before .to-signed .result) (c .before .before .to-signed .ok), signed-is _ (s .1))))
+    let s = rw (c .before .before .before .c2 .given .1) at (c .before .before .before .before .before .before .pre) in
+    rw (c .before .before .before .c2 .given .1) (advanced-put (c .before .before .before .before .before .before .args .l) (c .before .before .before .before .before .before .args .n) (s .1) (c .before .before .before .before .before .node-at .ensures) (c .before .advanced-to .ensures) (c .with-node2 .ensures)))
     (λ c.
-    let s = rw (c .before .before .before .before .before .c3 .given .1) at (c .before .before .before .before .before .before .before .before .pre) in
-    rw (c .before .before .before .before .before .c3 .given .1) (cc (told (c .before .before .mark-of .result) (c .before .before .mark-of .ok), told (c .before .before .before .to-signed2 .result) (c .before .before .before .to-signed2 .ok), signed-is _ (s .1))))
+    let s = rw (c .before .before .before .c3 .given .1) at (c .before .before .before .before .before .before .pre) in
+    rw (c .before .before .before .c3 .given .1) (marked-put (c .before .before .before .before .before .before .args .l) (c .before .before .before .before .before .before .args .n) (s .1) (c .before .before .before .before .before .node-at .ensures) (c .before .marked-at .ensures) (c .with-node3 .ensures)))
     (λ c.
     let s = rw (c .before .before .c4 .given .1) at (c .before .before .before .before .before .pre) in
-    rw (c .before .before .c4 .given .1) (cc (right-within _ (s .3)))))
+    rw (c .before .before .c4 .given .1) (split-put (c .before .before .before .before .before .args .l) (c .before .before .before .before .before .args .n) _ (s .3) (c .before .before .before .before .node-at .ensures) (c .split-at .ensures))))
