@@ -52,7 +52,7 @@ use Rattle.listing_rules.proofs.Runs.{Begun, Here, here}
 
 -- the limits that a step's code counts on
 module _ (l : Ledger) (w : WF l) (number : ℕ) (r : Team) (cap : ℕ) (fit : Fit cap (l .used) r) where
-  pub ready : number ≤ l .teams → cap ≤ maxCap → Ready number r (view l (r .node))
+  pub ready : number ≤ l .teams → cap ≤ maxCap → Ready number r (alone (view l (r .node)))
   unfolding view
   ready high small =
       record {
@@ -210,7 +210,7 @@ module _ {o : Opening} {cap : ℕ} {u : Run} (b : Begun o cap u) (s : List ℤ) 
       let seen : v ≡ alone (view l n) = ev ∙ view-is l n stolen pair x ec eq node in
       let good : Ready k (getD rs slot noTeam) v =
       rw (ek, es, seen) (ready l w (natOf number) r cap (stand .fits number mine) (omega (arith, h .high, stand .teams-are)) (stand .small)) in
-      et good ∙ rw (ek, es, seen) (turn-alone (natOf number) cap r (view l n))
+      et good ∙ rw (ek, es, seen) (turn-alone (natOf number) cap (recordOf rs number) (view l (recordOf rs number .node)))
 
   pub inked : (p₀ p p′ : Paper) (t : Turned)
       → t ≡ taken
