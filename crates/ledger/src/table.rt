@@ -19,6 +19,7 @@ use rules::View;
 
 // The slots of the table, as a number of nodes, and the last of them.
 const SLOTS: u32 = Opening::NODES as u32;
+
 const LAST: u32 = SLOTS - 1;
 
 // A slot of the table, whatever the number.

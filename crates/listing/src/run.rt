@@ -116,7 +116,14 @@ pub(crate) fn run(
         let place = table::slot_for(team.node);
         let standing = book.nodes[place];
         let node = table::node_for(team.node, standing);
-        let view = table::view_by(book.teams, book.room, book.used, stolen, book.used + 1, node);
+        let view = table::view_by(
+            book.teams,
+            book.room,
+            book.used,
+            stolen,
+            book.used + 1,
+            node,
+        );
         let t = teams::turn(numbers::natural(number), cap, team, view);
         printed = paper::note(out, printed, number, t);
         let moved = t.team;
