@@ -8,6 +8,7 @@ use lib.ListN.{length, getD, set, replicate, take}
 use lib.Seq.{getD-set-same, getD-set-other}
 use borrow.Author.Tests.{eq-eqb, ne-eqb}
 use Rattle.rules.specs.declared.Node.{Node}
+use Rattle.rules.specs.Limits.{maxNodes}
 use Rattle.rules.specs.Nodes.{blank}
 use Rattle.rules.specs.Table.{sumBy}
 use Rattle.rules.specs.WellFormed.{leftIs}
@@ -27,7 +28,7 @@ unfolding leftIs
 left-not e x q = rw (ne-eqb (x .left) e q)
 
 -- s is the place at which the node in slot i is counted
-module _ (ns : List Node) (i : ℕ) (seen : List ℕ) (s : ℕ) (long : length seen ≡ 1024) (inside : s ≤ 1023) where
+module _ (ns : List Node) (i : ℕ) (seen : List ℕ) (s : ℕ) (long : length seen ≡ maxNodes + 1) (inside : s ≤ maxNodes) where
   abbrev more : List ℕ
   more = set seen s (getD seen s 0 + 1)
 
@@ -39,11 +40,11 @@ module _ (ns : List Node) (i : ℕ) (seen : List ℕ) (s : ℕ) (long : length s
       go (no n) = rw (getD-set-other seen s e (getD seen s 0 + 1) 0 n) (omega (arith, b e))
 
   pub tally-more : i < length ns
-      → (getD ns i blank .left < 1023 → s ≡ getD ns i blank .left)
-      → (1023 ≤ getD ns i blank .left → s ≡ 1023)
-      → ((e : ℕ) → e < 1023 → getD seen e 0 ≡ sumBy (leftIs e) (take i ns))
+      → (getD ns i blank .left < maxNodes → s ≡ getD ns i blank .left)
+      → (maxNodes ≤ getD ns i blank .left → s ≡ maxNodes)
+      → ((e : ℕ) → e < maxNodes → getD seen e 0 ≡ sumBy (leftIs e) (take i ns))
       → (e : ℕ)
-      → e < 1023
+      → e < maxNodes
       → getD more e 0 ≡ sumBy (leftIs e) (take (i + 1) ns)
   tally-more h small large b e k = go (ℕ-discrete e s) (ℕ-discrete (getD ns i blank .left) e)
     where
@@ -55,9 +56,9 @@ module _ (ns : List Node) (i : ℕ) (seen : List ℕ) (s : ℕ) (long : length s
           rw
           (← q, getD-set-same seen e (getD seen e 0 + 1) 0 (omega arith))
           (omega (arith, b e k, next, left-is e (getD ns i blank) r))
-      go (yes q) (no r) = absurd (apart (decLe 1023 (getD ns i blank .left)))
+      go (yes q) (no r) = absurd (apart (decLe maxNodes (getD ns i blank .left)))
         where
-          apart : Dec (1023 ≤ getD ns i blank .left) → ⊥
+          apart : Dec (maxNodes ≤ getD ns i blank .left) → ⊥
           apart (yes m) = omega (arith, large m)
           apart (no m) = r (omega (arith, small (omega arith)))
       go (no q) (yes r) = absurd (q (omega (arith, small (omega arith))))

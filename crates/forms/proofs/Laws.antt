@@ -1,21 +1,32 @@
 -- What the tests of well formed need of the definitions, over plain variables.
 use mathlib.Core.Path.{_≡_, refl, sym, ap, ap₂, _∙_}
-use mathlib.Core.Bool.{Bool, true, _&&_, and-false, false-and}
+use mathlib.Core.Bool.{Bool, true, _&&_, and-true, true-and, and-false, false-and, and-assoc}
 use mathlib.Core.List.{List, map}
-use Prim.Native.Nat.{ℕ, zero, suc, _+_, _-_, _≤_, _<_}
+use Prim.Native.Nat.{ℕ, zero, suc, _+_, _-_, _%_, _≤_, _<_}
 use native.Mathlib.Numerals.{add-one}
 use native.Mathlib.Decide.{decLt}
 use native.Mathlib.Omega.{arith}
+use lib.Dec.{eqb, leb}
 use lib.ListN.{length, length-map}
-use borrow.Author.Tests.{eq-eqb, le-ltb}
+use borrow.Author.Tests.{eq-eqb, le-leb, le-ltb}
 use Rattle.rules.specs.declared.Node.{Node}
 use Rattle.rules.specs.declared.Ledger.{Ledger}
-use Rattle.rules.specs.Limits.{opens}
+use Rattle.rules.specs.Limits.{maxUntil, maxTeams, maxNodes, opens}
 use Rattle.rules.specs.WellFormed.{upTo, childRule, numbersRule}
 use Rattle.rules.proofs.Facts.{facts}
 
+-- the tests of a ledger's numbers, without those that no unsigned number fails: 0 ≤ start, 0 ≤ until, and the cap of the least run
+pub numbers-are : (l : Ledger)
+    → ((leb (l .start) (l .until) && leb (l .until) maxUntil)
+    && (leb 1 (l .teams) && leb (l .teams) maxTeams)
+    && (leb 1 (l .room) && leb (l .room) maxNodes)
+    && (eqb (l .used % 2) 1 && leb (l .used) (l .room)))
+    ≡ numbersRule l
+unfolding opens
+numbers-are l = rw (le-leb 0 (l .start) (omega arith), le-leb 0 (l .until) (omega arith)) (simp (and-true, true-and, and-assoc))
+
 -- a ledger whose numbers are within their limits
-pub used-small : (l : Ledger) → numbersRule l ≡ true → l .used ≤ 1023
+pub used-small : (l : Ledger) → numbersRule l ≡ true → l .used ≤ maxNodes
 unfolding opens
 used-small l e = omega (arith, simp facts at e)
 
@@ -40,10 +51,10 @@ upTo-same p q (suc k) h =
 
 -- the rule looks at the children only where their numbers can be slots
 pub child-slots : (n used : ℕ) (x : Node) (slot node : ℕ → Node) (s : ℕ)
-    → used ≤ 1023
+    → used ≤ maxNodes
     → ((i : ℕ) → node (i + 1) ≡ slot i)
     → 1 ≤ s
-    → (1 ≤ x .left → x .left ≤ 1022 → s ≡ x .left)
+    → (1 ≤ x .left → x .left < maxNodes → s ≡ x .left)
     → childRule n used x (slot (s - 1)) (slot s) ≡ childRule n used x (node (x .left)) (node (x .left + 1))
 unfolding childRule
 child-slots n used x slot node s small same low is = go (decLt 0 (x .left)) (decLt (x .left) used)

@@ -2,20 +2,25 @@
 ghost use mathlib.Core.Path.{_≡_};
 ghost use Prim.Native.Nat.{ℕ, _+_, _≤_, _<_};
 ghost use lib.ListN.{getD};
+ghost use Rattle.rules.specs.Limits.{maxNodes};
 ghost use Rattle.rules.specs.Table.{sumBy, stolenIn};
 ghost use Rattle.rules.specs.WellFormed.{upTo, numbersRule, rootRange, nodeRule, leftIs, pairRule, roomRule, unusedRule, wellFormed};
 use rules::Ledger;
 use rules::Opening;
 
+// The slots of the table, as a number of nodes.
+const SLOTS: u32 = Opening::NODES as u32;
+// The tally has a place for each number from 0 to the last node's.
+const PLACES: usize = Opening::NODES + 1;
+
 fn numbers_ok(l: Ledger) -> bool
     ensures { λ r. ⌜ r ≡ numbersRule l ⌝ }
 {
-    let ordered = (0 <= l.start) & (l.start <= l.until);
-    let ends = (0 <= l.until) & (l.until <= Opening::UNTIL);
-    let some = (1 <= l.teams) & (l.teams <= Opening::TEAMS);
-    let room = (1 <= l.room) & (l.room <= Opening::NODES as u32);
+    let range = (l.start <= l.until) & (l.until <= Opening::UNTIL);
+    let teams = (1 <= l.teams) & (l.teams <= Opening::TEAMS);
+    let room = (1 <= l.room) & (l.room <= SLOTS);
     let used = (l.used % 2 == 1) & (l.used <= l.room);
-    (ordered & ends & some & true & room) & used
+    range & teams & room & used
 }
 
 fn root_ok(l: Ledger) -> bool
@@ -25,21 +30,21 @@ fn root_ok(l: Ledger) -> bool
     (x.start == l.start) & (x.until == l.until)
 }
 
-// A left child's number as a slot that has a next one: itself, where it can be one.
+// The slot of a right child, by the left one's number: that number itself, where a pair can stand at it.
 fn pair_slot(left: u32) -> usize
-    ensures { λ r. ⌜ (1 ≤ r) × (r ≤ 1022) × ((1 ≤ left) → (left ≤ 1022) → r ≡ left) ⌝ }
+    ensures { λ r. ⌜ (1 ≤ r) × (r < maxNodes) × ((1 ≤ left) → (left < maxNodes) → r ≡ left) ⌝ }
 {
     if left < 1 {
         return 1;
     }
-    if 1022 < left {
+    if SLOTS <= left {
         return 1;
     }
     left as usize
 }
 
 fn nodes_ok(l: Ledger) -> bool
-    requires { ⌜ l .used ≤ 1023 ⌝ }
+    requires { ⌜ l .used ≤ maxNodes ⌝ }
     ensures { λ r. ⌜ r ≡ upTo (nodeRule l) (l .used) ⌝ }
 {
     let used = l.used;
@@ -61,18 +66,22 @@ fn nodes_ok(l: Ledger) -> bool
     ok
 }
 
-// A number below 1,023 as itself, any other as 1,023.
+// A number at which a pair can stand as itself, and any other as the last place of the tally.
 fn tally_slot(left: u32) -> usize
-    ensures { λ r. ⌜ (r ≤ 1023) × ((left < 1023) → r ≡ left) × ((1023 ≤ left) → r ≡ 1023) ⌝ }
+    ensures { λ r. ⌜ (r ≤ maxNodes) × ((left < maxNodes) → r ≡ left) × ((maxNodes ≤ left) → r ≡ maxNodes) ⌝ }
 {
-    if left < 1023 { left as usize } else { 1023 }
+    if left < SLOTS {
+        left as usize
+    } else {
+        Opening::NODES
+    }
 }
 
-// At each number below 1,023, how many nodes have it for left child.
-fn tally(l: Ledger) -> [u32; 1024]
-    ensures { λ r. ⌜ ((c : ℕ) → c < 1023 → getD r c 0 ≡ sumBy (leftIs c) (l .nodes)) ⌝ }
+// At each number at which a pair can stand, how many nodes have it for left child.
+fn tally(l: Ledger) -> [u32; PLACES]
+    ensures { λ r. ⌜ ((c : ℕ) → c < maxNodes → getD r c 0 ≡ sumBy (leftIs c) (l .nodes)) ⌝ }
 {
-    let mut seen = [0u32; 1024];
+    let mut seen = [0u32; PLACES];
     let mut i: usize = 0;
     while i < Opening::NODES {
         let x = l.nodes[i];
@@ -85,7 +94,7 @@ fn tally(l: Ledger) -> [u32; 1024]
 }
 
 fn pairs_ok(l: Ledger) -> bool
-    requires { ⌜ l .used ≤ 1023 ⌝ }
+    requires { ⌜ l .used ≤ maxNodes ⌝ }
     ensures { λ r. ⌜ r ≡ upTo (pairRule l) (l .used) ⌝ }
 {
     let used = l.used;
@@ -123,12 +132,12 @@ fn room_ok(l: Ledger) -> bool
 }
 
 fn unused_ok(l: Ledger) -> bool
-    ensures { λ r. ⌜ r ≡ upTo (unusedRule l) 1023 ⌝ }
+    ensures { λ r. ⌜ r ≡ upTo (unusedRule l) maxNodes ⌝ }
 {
     let used = l.used;
     let mut ok = true;
     let mut i: u32 = 0;
-    while i < 1023 {
+    while i < SLOTS {
         let slot = i as usize;
         let x = l.nodes[slot];
         let none = nodes::formed::blank_ok(x);

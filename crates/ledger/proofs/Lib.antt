@@ -1,2 +1,3 @@
 pub mod Laws
 pub mod Slots
+pub mod Storing

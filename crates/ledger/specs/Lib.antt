@@ -1,2 +1,3 @@
 -- What the ledger's code needs beside the rules.
 pub mod Slots
+pub mod Table

@@ -1,13 +1,18 @@
--- The slots into which a change at node n stores. All of them are in the table: the code tests none.
+-- The slots into which a change at node n, which is x, stores, and what it stores there. All of it is in the table and within its limits: the
+-- code tests none.
 use Prim.Native.Nat.{ℕ, _+_, _≤_}
+use Rattle.rules.specs.declared.Node.{Node}
 use Rattle.rules.specs.declared.Change.{Change}
-use Rattle.rules.specs.declared.Change.the-variants.{Keep, Store, Split}
-use Rattle.rules.specs.Limits.{maxNodes}
+use Rattle.rules.specs.declared.Change.the-variants.{Keep, Own, Advance, Mark, Split}
+use Rattle.rules.specs.Limits.{maxUntil, maxNodes}
+use Rattle.rules.specs.Nodes.{middle}
 
 abbrev pub IsSlot : ℕ → Type 0
 IsSlot n = (1 ≤ n) × (n ≤ maxNodes)
 
-abbrev pub Stores : ℕ → Change → Type 0
-Stores n Keep = Unit {0}
-Stores n (Store x) = IsSlot n
-Stores n (Split x pair a b) = IsSlot n × IsSlot pair × IsSlot (pair + 1)
+abbrev pub Stores : ℕ → Node → Change → Type 0
+Stores n x Keep = Unit {0}
+Stores n x (Own team) = IsSlot n
+Stores n x (Advance p) = IsSlot n × (p ≤ maxUntil)
+Stores n x (Mark p) = IsSlot n × (p ≤ maxUntil)
+Stores n x (Split c) = IsSlot n × IsSlot c × IsSlot (c + 1) × (middle x ≤ maxUntil)

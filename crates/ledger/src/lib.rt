@@ -11,7 +11,7 @@ use rules::Request;
 use rules::Unclaimed;
 
 mod opens;
-mod table;
+pub mod table;
 
 // Opens a ledger, or refuses with 20 and an all-zero ledger.
 pub fn open(o: Opening) -> Opened

@@ -30,30 +30,31 @@ fn outside() {
     print::text(b"\n");
 }
 
-fn change(c: Change) {
+fn stored(x: Node) {
+    print::text(b" store");
+    print::node(x);
+}
+
+// What a change makes of the node x.
+fn change(x: Node, c: Change) {
     match c {
         Change::Keep => print::text(b" keep"),
-        Change::Store(x) => {
-            print::text(b" store");
-            print::node(x);
-        }
-        Change::Split {
-            parent,
-            pair,
-            left,
-            right,
-        } => {
+        Change::Own(team) => stored(nodes::owned_by(x, team)),
+        Change::Advance(p) => stored(nodes::advanced_to(x, p)),
+        Change::Mark(p) => stored(nodes::marked_at(x, p)),
+        Change::Split(pair) => {
             print::text(b" split");
-            print::node(parent);
+            print::node(nodes::parted_at(x, pair));
             print::number(pair);
-            print::node(left);
-            print::node(right);
+            print::node(nodes::left_part(x));
+            print::node(nodes::right_part(x));
         }
     }
 }
 
 // Expand, asked of one node in a table of so many nodes, with one STOLEN node.
 fn expand(nodes: u32, used: u32, x: Node) {
+    let none = nodes::blank_node();
     let v = View {
         teams: 2,
         room: nodes,
@@ -61,6 +62,8 @@ fn expand(nodes: u32, used: u32, x: Node) {
         stolen: 1,
         pair: 4,
         node: x,
+        left: none,
+        right: none,
     };
     let o = requests::decide(v, Request::new(ask::EXPAND, 2, 1, 0, 0));
     let a = o.answer;
@@ -74,7 +77,7 @@ fn expand(nodes: u32, used: u32, x: Node) {
     print::text(b": answer");
     print::answer(a);
     print::text(b",");
-    change(c);
+    change(x, c);
     print::text(b"\n");
 }
 

@@ -2,14 +2,13 @@
 use mathlib.Core.Path.{_≡_, refl, sym, ap, _∙_}
 use mathlib.Core.Bool.{Bool, true, false, cond}
 use mathlib.Core.List.{List, [], _∷_, _++_, append-assoc, append-nil}
-use Prim.Native.Nat.{ℕ, _+_, _-_, _≤_, _<_, max}
+use Prim.Native.Nat.{ℕ, _+_, _-_, _≤_, _<_}
 use native.Mathlib.Omega.{arith}
 use native.Mathlib.Decide.{decLe}
 use lib.IntN.{ℤ, pos}
 use lib.ListN.{length, getD, set, take, replicate}
 use lib.Seq.{take-suc}
 use native.Mathlib.Numerals.{add-one}
-use borrow.Author.Tests.{le-leb, lt-leb}
 use Rattle.numbers.specs.Fields.{natOf, within}
 use Rattle.numbers.proofs.Laws.{within-true}
 use Rattle.rules.specs.declared.Node.{Node}
@@ -18,60 +17,44 @@ use Rattle.rules.specs.declared.Opening.{Opening}
 use Rattle.rules.specs.declared.Opened.{Opened}
 use Rattle.rules.specs.declared.View.{View}
 use Rattle.rules.specs.declared.Change.{Change}
-use Rattle.rules.specs.declared.Change.the-variants.{Keep, Store, Split}
+use Rattle.rules.specs.declared.Change.the-variants.{Keep, Own, Advance, Mark, Split}
 use Rattle.rules.specs.Limits.{opens, maxCap, maxTeams, maxNodes}
-use Rattle.rules.specs.Nodes.{blank, parted, leftPart, rightPart}
+use Rattle.rules.specs.Nodes.{blank, owned, parted, leftPart}
 use Rattle.rules.specs.States.{stolenOf}
-use Rattle.rules.specs.Requests.{view, changed}
-use Rattle.rules.specs.Table.{InUse, at, put, nextPair, grown, stolenIn}
-use Rattle.rules.proofs.Changed.{Changes, keeps, stores, splits, changes}
-use Rattle.rules.proofs.Expand.{load-next}
+use Rattle.rules.specs.Requests.{view, alone, changed}
+use Rattle.rules.specs.Table.{InUse, at, nextPair, stolenIn}
+use Rattle.rules.proofs.Changed.{Changes, keeps, changes}
 use Rattle.rules.specs.Opening.{opening, ledgerOf}
 use Rattle.rules.proofs.Opens.{opens-facts, opened-wf, opened-root}
-use Rattle.rules.proofs.Nodes.{at-out, at-next}
+use Rattle.rules.proofs.Nodes.{at-next}
 use Rattle.rules.proofs.Sums.{sumBy-zero}
-use Rattle.rules.proofs.Range.{within-range}
-use Rattle.rules.proofs.Record.{WF, used-high, in-table}
-use Rattle.rules.proofs.Spare.{spare, pair-room}
-use Rattle.rules.proofs.States.{never, Stolen, stolen-one, parent-none, fresh-none, blank-none}
-use Rattle.rules.proofs.Store.{stolen-put}
+use Rattle.rules.proofs.Record.{WF, used-high}
+use Rattle.rules.proofs.Spare.{spare}
+use Rattle.rules.proofs.States.{fresh-none, blank-none}
 use Rattle.steps.specs.declared.Team.{Team}
 use Rattle.steps.specs.declared.Turned.{Turned}
-use Rattle.steps.specs.Records.{freshTeam, noTeam, isStopped}
+use Rattle.steps.specs.Records.{freshTeam, maxNode, noTeam, isStopped}
 use Rattle.steps.specs.Step.{slotOf, recordOf, lentCode, lentStep, stepUnless, recordsAfter}
 use Rattle.steps.specs.Turn.{asks, moves, still, turning, turned, carried}
 use Rattle.steps.specs.Run.{Run, stepTeam, runSteps}
 use Rattle.steps.proofs.Fits.{Fit}
 use Rattle.steps.proofs.Runs.{opened-used}
-use Rattle.steps.proofs.Turns.{step-turn, asks-node}
+use Rattle.steps.proofs.Turns.{turn-alone, step-turn, asks-node}
 use Rattle.places.specs.Clipped.{Ready}
 use Rattle.line_rules.specs.Line.{Line}
 use Rattle.listing_rules.specs.Steps.{runWith, runFrom, startOf, endOf, stepLine, noteOf, notes, lastLine}
 use Rattle.listing_rules.specs.Paper.{Paper, printed, printedAll}
-use Rattle.listing.specs.Table.{slotFor, nodeFor, viewBy}
+use Rattle.nodes.specs.Makers.{heldAdvanced, heldMarked, heldRight}
+use Rattle.ledger.specs.Table.{slotFor, nodeFor, viewBy}
+use Rattle.ledger.proofs.Storing.{node-is, view-is, with-nodes, Next, kept, owned-in, advanced-in, marked-in, split-room, split-in}
 use Rattle.listing_rules.proofs.Printing.{print-append, print-one}
 use Rattle.listing_rules.proofs.Runs.{Begun, Here, here}
 
--- ---- what the code sees of the table
-
-pub node-is : (l : Ledger) (n : ℕ) → length (l .nodes) ≡ maxNodes → nodeFor n (getD (l .nodes) (slotFor n) blank) ≡ at l n
-node-is l n slots = go (decLe n maxNodes)
-  where
-    go : Dec (n ≤ maxNodes) → nodeFor n (getD (l .nodes) (slotFor n) blank) ≡ at l n
-    go (yes h) = let e : slotFor n ≡ n - 1 = omega arith in rw (le-leb n maxNodes h, e) (unfold at in refl)
-    go (no h) = rw (lt-leb n maxNodes (omega arith)) (sym (at-out l n (omega arith)))
-
-pub view-is : (l : Ledger) (n stolen : ℕ) (x : Node) → stolen ≡ stolenIn l → x ≡ at l n
-    → viewBy (l .teams) (l .room) (l .used) stolen x ≡ view l n
-unfolding view nextPair
-view-is l n stolen x e f = rw (e, f)
-
 -- the limits that a step's code counts on
 module _ (l : Ledger) (w : WF l) (number : ℕ) (r : Team) (cap : ℕ) (fit : Fit cap (l .used) r) where
-  pub ready : number ≤ l .teams → cap ≤ maxCap → Ready number r (view l (r .node))
+  pub ready : number ≤ l .teams → cap ≤ maxCap → Ready number r (alone (view l (r .node)))
   unfolding view
   ready high small =
-      let ends = go (decLe (r .node) (l .used)) in
       record {
         limited =
             record {
@@ -79,8 +62,7 @@ module _ (l : Ledger) (w : WF l) (number : ℕ) (r : Team) (cap : ℕ) (fit : Fi
               node-high = omega (arith, fit .high, used-high l w);
               size-high = omega (arith, fit .most);
             };
-        until-high = ends .0;
-        left-high = ends .1;
+        left-high = go (decLe (r .node) (l .used));
         pair-high = omega (arith, spare l w .next, used-high l w);
       }
     where
@@ -90,13 +72,13 @@ module _ (l : Ledger) (w : WF l) (number : ℕ) (r : Team) (cap : ℕ) (fit : Fi
       used : r .node ≤ l .used → InUse l (r .node)
       used h = record { low = fit .low; high = h }
 
-      child : r .node ≤ l .used → Dec (0 < x .left) → x .left ≤ 1024
+      child : r .node ≤ l .used → Dec (0 < x .left) → x .left ≤ maxNode
       child h (yes k) = omega (arith, w .pair (r .node) (used h) k .inside, used-high l w)
       child h (no k) = omega arith
 
-      go : Dec (r .node ≤ l .used) → (x .until ≤ 2147483647) × (x .left ≤ 1024)
-      go (yes h) = (omega (arith, within-range l w (r .node) (used h) .high, w .limits .until-limit), child h (decLe 1 (x .left)))
-      go (no h) = rw (w .blank (r .node) (omega arith)) (omega arith, omega arith)
+      go : Dec (r .node ≤ l .used) → x .left ≤ maxNode
+      go (yes h) = child h (decLe 1 (x .left))
+      go (no h) = rw (w .blank (r .node) (omega arith)) (omega arith)
 
 -- ---- a turn of a team
 
@@ -142,80 +124,6 @@ module _ (cap : ℕ) (l : Ledger) (w : WF l) (rs : List Team) (number : ℤ) (pa
   pub note-is : stepLine number (lentStep l number (pos cap) rs) ≡ noteOf number (t .kind) (t .node) (t .answer)
   note-is = rw lent-is
 
--- ---- the table after a change, as the code stores it
-
-abbrev pub with-nodes : Ledger → ℕ → List Node → Ledger
-with-nodes l used ns = record { start = l .start; until = l .until; teams = l .teams; room = l .room; used = used; nodes = ns }
-
--- in its slot, and the STOLEN count goes by the old and the new node
-pub record Stored (l : Ledger) (n : ℕ) (x : Node) (next : Ledger) : Type 0 where
-  pub is : with-nodes l (l .used) (set (l .nodes) (slotFor n) x) ≡ next
-  pub count : stolenIn l + stolenOf x - stolenOf (at l n) ≡ stolenIn next
-
-pub record Parted (l : Ledger) (n : ℕ) (x : Node) (pair : ℕ) (a b : Node) (next : Ledger) : Type 0 where
-  pub some : 1 ≤ pair
-  pub room : pair + 1 ≤ maxNodes
-  pub is : with-nodes l (pair + 1) (set (set (set (l .nodes) (slotFor n) x) (pair - 1) a) (pair - 1 + 1) b) ≡ next
-  pub count : stolenIn l + stolenOf x - stolenOf (at l n) ≡ stolenIn next
-
-module _ (l : Ledger) (w : WF l) (n : ℕ) where
-  slot-is : InUse l n → slotFor n ≡ n - 1
-  slot-is u = omega (arith, u .high, used-high l w)
-
-  stored-in : (x : Node) → InUse l n → Stored l n x (changed l n (Store x))
-  unfolding changed
-  stored-in x u =
-      record {
-        is = rw (slot-is u) (unfold put in refl);
-        count = omega (arith, stolen-put l n x (u .low) (in-table l w n u));
-      }
-
-  abbrev x : Node
-  x = at l n
-
-  abbrev c : ℕ
-  c = nextPair l
-
-  abbrev y : Node
-  y = parted x c
-
-  parted-in : InUse l n → Stolen x → Parted l n y c (leftPart x) (rightPart x) (changed l n (Split y c (leftPart x) (rightPart x)))
-  unfolding changed
-  parted-in u s =
-      let some : 1 ≤ c = omega (arith, spare l w .past) in
-      let next : c - 1 + 1 ≡ c + 1 - 1 = omega arith in
-      let used : c + 1 ≡ max (l .used) (c + 1) = omega (arith, spare l w .past) in
-      record {
-        some = some;
-        room = omega (arith, pair-room l w n u s, w .limits .room-high);
-        is =
-            rw
-            (slot-is u, next)
-            (ap (λ (k : ℕ). with-nodes l k (set (set (set (l .nodes) (n - 1) y) (c - 1) (leftPart x)) (c + 1 - 1) (rightPart x))) used
-            ∙ unfold grown put in refl);
-        count = omega (arith, load-next l w n u s, stolen-one x s, parent-none y some, spare l w .next, spare l w .past);
-      }
-
-  -- by the arms of the code's match
-  pub kept : {c : Change} → c ≡ Keep → l ≡ changed l n c
-  unfolding changed
-  kept e = rw e
-
-  pub stored : {c : Change} → Changes l n c → (y : Node) → c ≡ Store y → Stored l n y (changed l n c)
-  stored keeps y e = never (cc)
-  stored (stores u) y e = rw e (stored-in y u)
-  stored (splits u s) y e = never (cc)
-
-  pub split-up : {c : Change} → Changes l n c → (z : Node) (pair : ℕ) (a b : Node) → c ≡ Split z pair a b → Parted l n z pair a b (changed l n c)
-  split-up keeps z pair a b e = never (cc)
-  split-up (stores u) z pair a b e = never (cc)
-  split-up (splits u s) z pair a b e =
-      let ez : z ≡ y = cc in
-      let ep : pair ≡ c = cc in
-      let ea : a ≡ leftPart x = cc in
-      let eb : b ≡ rightPart x = cc in
-      rw (ez, ep, ea, eb) (parted-in u s)
-
 -- ---- a run one step longer
 
 run-append : (cap : ℤ) (u : Run) (s t : List ℤ) → runFrom cap u (s ++ t) ≡ runFrom cap (runFrom cap u s) t
@@ -243,20 +151,20 @@ module _ (cap : ℤ) (u : Run) (s : List ℤ) (i : ℕ) (less : i < length s) wh
 
 -- ---- the loop's step
 
--- what the code stores, by the arms of its match: the ledger and the records after the step, with their STOLEN count
-pub record Arms (cap : ℕ) (u : Run) (s : List ℤ) (l : Ledger) (rs : List Team) (slot place stolen : ℕ) (x : Node) (t : Turned) : Type 0 where
-  pub keep : t .change ≡ Keep → runWith l (set rs slot (t .team)) ≡ runFrom (pos cap) u s
-  pub store : (y : Node) (k : ℕ)
-      → t .change ≡ Store y
-      → k ≡ stolen + stolenOf y - stolenOf x
-      → (k ≡ stolenIn (with-nodes l (l .used) (set (l .nodes) place y)))
-      × (runWith (with-nodes l (l .used) (set (l .nodes) place y)) (set rs slot (t .team)) ≡ runFrom (pos cap) u s)
-  pub pair : (y : Node) (pair : ℕ) (a b : Node) → t .change ≡ Split y pair a b → (1 ≤ pair) × (pair + 1 ≤ maxNodes)
-  pub split : (y : Node) (pair : ℕ) (a b : Node) (k : ℕ)
-      → t .change ≡ Split y pair a b
-      → k ≡ stolen + stolenOf y - stolenOf x
-      → (k ≡ stolenIn (with-nodes l (pair + 1) (set (set (set (l .nodes) place y) (pair - 1) a) (pair - 1 + 1) b)))
-      × (runWith (with-nodes l (pair + 1) (set (set (set (l .nodes) place y) (pair - 1) a) (pair - 1 + 1) b)) (set rs slot (t .team)) ≡ runFrom (pos cap) u s)
+-- the table and the records after a step, and the STOLEN count k
+pub record Goes (cap : ℕ) (u : Run) (s : List ℤ) (next : Ledger) (rs : List Team) (k : ℕ) : Type 0 where
+  pub count : k ≡ stolenIn next
+  pub run : runWith next rs ≡ runFrom (pos cap) u s
+
+-- what the code stores, by the arms of its match
+pub record Arms (cap : ℕ) (u : Run) (s : List ℤ) (l : Ledger) (rs : List Team) (place stolen : ℕ) (c : Change) : Type 0 where
+  pub keep : c ≡ Keep → Goes cap u s l rs stolen
+  pub own : (team : ℕ) → c ≡ Own team → Goes cap u s (with-nodes l (l .used) (set (l .nodes) place (owned (getD (l .nodes) place blank) team))) rs stolen
+  pub advance : (p : ℕ) → c ≡ Advance p → Goes cap u s (with-nodes l (l .used) (set (l .nodes) place (heldAdvanced (getD (l .nodes) place blank) p))) rs stolen
+  pub mark : (p : ℕ) → c ≡ Mark p → Goes cap u s (with-nodes l (l .used) (set (l .nodes) place (heldMarked (getD (l .nodes) place blank) p))) rs (stolen + 1)
+  pub pair : (p : ℕ) → c ≡ Split p → (1 ≤ p) × (p + 1 ≤ maxNodes)
+  pub split : (p : ℕ) → c ≡ Split p
+      → Goes cap u s (with-nodes l (p + 1) (set (set (set (l .nodes) place (parted (getD (l .nodes) place blank) p)) (p - 1) (leftPart (getD (l .nodes) place blank))) (p - 1 + 1) (heldRight (getD (l .nodes) place blank)))) rs (stolen - 1)
 
 module _ {o : Opening} {cap : ℕ} {u : Run} (b : Begun o cap u) (s : List ℤ) (i : ℕ) (less : i < length s) (l : Ledger) (rs : List Team)
     (inv : runWith l rs ≡ runFrom (pos cap) u (take i s)) (mine : within (getD s i (pos 0)) 1 (natOf (o .teams)) ≡ true) where
@@ -283,24 +191,26 @@ module _ {o : Opening} {cap : ℕ} {u : Run} (b : Begun o cap u) (s : List ℤ) 
   next-notes = rw (notes-more (pos cap) u s i less, ← inv, note-is cap l (stand .wf) rs number (stand .passes number mine))
 
   -- the turn that the code takes is the step's
-  pub taken-is : (slot place stolen k : ℕ) (x : Node) (v : View) (t : Turned)
+  pub taken-is : (slot place stolen pair k : ℕ) (x : Node) (v : View) (t : Turned)
       → slot ≡ slotOf number
       → place ≡ slotFor (getD rs slot noTeam .node)
       → stolen ≡ stolenIn l
+      → pair ≡ nextPair l
       → x ≡ nodeFor (getD rs slot noTeam .node) (getD (l .nodes) place blank)
-      → v ≡ viewBy (l .teams) (l .room) (l .used) stolen x
+      → v ≡ viewBy (l .teams) (l .room) (l .used) stolen pair x
       → k ≡ natOf number
       → (Ready k (getD rs slot noTeam) v → t ≡ turned k cap (getD rs slot noTeam) v)
-      → (t ≡ taken) × (x ≡ at l (recordOf rs number .node))
-  taken-is slot place stolen k x v t es ep ec ex ev ek et =
+      → t ≡ taken
+  taken-is slot place stolen pair k x v t es ep ec eq ex ev ek et =
       let w = stand .wf in
-      let n : ℕ = recordOf rs number .node in
+      let r : Team = recordOf rs number in
+      let n : ℕ = r .node in
       let h = within-true number 1 (natOf (o .teams)) mine in
       let node : x ≡ at l n = ex ∙ rw (ep, es) (node-is l n (w .slots)) in
-      let seen : v ≡ view l n = ev ∙ view-is l n stolen x ec node in
+      let seen : v ≡ alone (view l n) = ev ∙ view-is l n stolen pair x ec eq node in
       let good : Ready k (getD rs slot noTeam) v =
-      rw (ek, es, seen) (ready l w (natOf number) (recordOf rs number) cap (stand .fits number mine) (omega (arith, h .high, stand .teams-are)) (stand .small)) in
-      (et good ∙ rw (ek, es, seen), node)
+      rw (ek, es, seen) (ready l w (natOf number) r cap (stand .fits number mine) (omega (arith, h .high, stand .teams-are)) (stand .small)) in
+      et good ∙ rw (ek, es, seen) (turn-alone (natOf number) cap (recordOf rs number) (view l (recordOf rs number .node)))
 
   pub inked : (p₀ p p′ : Paper) (t : Turned)
       → t ≡ taken
@@ -309,37 +219,43 @@ module _ {o : Opening} {cap : ℕ} {u : Run} (b : Begun o cap u) (s : List ℤ) 
       → p′ ≡ printedAll p₀ (notes (pos cap) u (take (i + 1) s))
   inked p₀ p p′ t et ep en = en ∙ rw (et, ep, ← next-notes) (sym (print-append p₀ (notes (pos cap) u (take i s)) _))
 
-  pub arms : (slot place stolen : ℕ) (x : Node) (t : Turned)
+  pub arms : (slot place stolen : ℕ) (t : Turned)
       → slot ≡ slotOf number
       → place ≡ slotFor (getD rs slot noTeam .node)
       → stolen ≡ stolenIn l
-      → x ≡ at l (recordOf rs number .node)
       → t ≡ taken
-      → Arms cap u (take (i + 1) s) l rs slot place stolen x t
-  arms slot place stolen x t es ep ec ex et =
+      → Arms cap u (take (i + 1) s) l (set rs slot (t .team)) place stolen (t .change)
+  arms slot place stolen t es ep ec et =
       record {
-        keep = λ e. ap (λ (k : Ledger). runWith k (set rs slot (t .team))) (kept l (stand .wf) m e) ∙ stepped;
-        store = λ y k e ek. let f = stored l (stand .wf) m by-turn y e in by-count k y _ (rw (ep, es) (f .is)) (f .count) ek;
-        pair = λ y pair a b e. let f = split-up l (stand .wf) m by-turn y pair a b e in (f .some, f .room);
-        split = λ y pair a b k e ek. let f = split-up l (stand .wf) m by-turn y pair a b e in by-count k y _ (rw (ep, es) (f .is)) (f .count) ek;
+        keep = λ e. goes e (rw ec (kept l w n (by-turn e)));
+        own = λ team e. goes e (rw (at-place, ec) (owned-in l w n team (by-turn e)));
+        advance = λ p e. goes e (rw (at-place, ec) (advanced-in l w n p (by-turn e)));
+        mark = λ p e. goes e (rw (at-place, ec) (marked-in l w n p (by-turn e)));
+        pair = λ p e. split-room l w n p (by-turn e);
+        split = λ p e. goes e (rw (at-place, ec) (split-in l w n p (by-turn e)));
       }
     where
-      m : ℕ
-      m = recordOf rs number .node
+      w : WF l
+      w = stand .wf
 
-      by-turn : Changes l (recordOf rs number .node) (t .change)
-      by-turn = rw et (turn-changes (natOf number) cap l (recordOf rs number))
+      n : ℕ
+      n = recordOf rs number .node
 
-      stepped : runWith (changed l (recordOf rs number .node) (t .change)) (set rs slot (t .team)) ≡ runFrom (pos cap) u (take (i + 1) s)
-      stepped = rw (es, et) next-run
+      at-place : place ≡ slotFor n
+      at-place = rw es at ep
 
-      -- a ledger that is the changed one
-      by-count : (k : ℕ) (y : Node) (next : Ledger)
-          → next ≡ changed l (recordOf rs number .node) (t .change)
-          → stolenIn l + stolenOf y - stolenOf (at l (recordOf rs number .node)) ≡ stolenIn (changed l (recordOf rs number .node) (t .change))
-          → k ≡ stolen + stolenOf y - stolenOf x
-          → (k ≡ stolenIn next) × (runWith next (set rs slot (t .team)) ≡ runFrom (pos cap) u (take (i + 1) s))
-      by-count k y next is count ek = (rw (ek, ec, ex) count ∙ ap stolenIn (sym is), ap (λ (k : Ledger). runWith k (set rs slot (t .team))) is ∙ stepped)
+      by-turn : {c : Change} → t .change ≡ c → Changes l (recordOf rs number .node) c
+      by-turn e = rw (← e, et) (turn-changes (natOf number) cap l (recordOf rs number))
+
+      goes : {used k : ℕ} {ns : List Node} {c : Change}
+          → t .change ≡ c
+          → Next l used ns k (changed l (recordOf rs number .node) c)
+          → Goes cap u (take (i + 1) s) (with-nodes l used ns) (set rs slot (t .team)) k
+      goes e f =
+          record {
+            count = f .count-is ∙ ap stolenIn (sym (f .is));
+            run = ap (λ (m : Ledger). runWith m (set rs slot (t .team))) (f .is) ∙ rw (← e, es, et) next-run;
+          }
 
 -- ---- before the loop, and after it
 

@@ -2,25 +2,23 @@
 ghost use mathlib.Core.Path.{_≡_};
 ghost use mathlib.Core.Bool.{true, cond};
 ghost use mathlib.Core.List.{_++_, _∷_, []};
-ghost use Prim.Native.Nat.{_+_, _-_, _≤_, _<_};
+ghost use Prim.Native.Nat.{_≤_};
 ghost use lib.ListN.{length, take, replicate};
 ghost use Rattle.numbers.specs.Progress.{signed};
-ghost use Rattle.rules.specs.States.{stolenOf};
 ghost use Rattle.rules.specs.WellFormed.{wellFormed};
 ghost use Rattle.steps.specs.Records.{freshTeam, isStopped};
 ghost use Rattle.steps.specs.Step.{slotOf};
 ghost use Rattle.steps.specs.Run.{stoppedTo};
 ghost use Rattle.listing_rules.specs.Steps.{startOf, runWith, notes, lastLine, endOf};
 ghost use Rattle.listing_rules.specs.Paper.{paper, printed, printedAll};
-ghost use Rattle.listing.specs.Table.{Runnable, slotFor, nodeFor, viewBy};
+ghost use Rattle.listing.specs.Table.{Runnable};
 use crate::Entry;
 use crate::paper;
+use ledger::table;
 use listing_rules::Listed;
 use rules::Change;
 use rules::Ledger;
-use rules::Node;
 use rules::Opening;
-use rules::View;
 use steps::Place;
 use steps::Team;
 
@@ -35,41 +33,6 @@ fn team_slot(number: i32) -> usize
     ensures { λ r. ⌜ r ≡ slotOf number ⌝ }
 {
     numbers::less_by(numbers::natural(number), 1) as usize
-}
-
-// A slot of the table, whatever the number.
-fn node_slot(n: u32) -> usize
-    ensures { λ r. ⌜ r ≡ slotFor n ⌝ }
-{
-    numbers::lesser(numbers::less_by(n, 1), 1022) as usize
-}
-
-fn node_for(n: u32, x: Node) -> Node
-    ensures { λ r. ⌜ r ≡ nodeFor n x ⌝ }
-{
-    if n <= 1023 { x } else { nodes::blank_node() }
-}
-
-fn view_by(teams: u32, room: u32, used: u32, stolen: u32, x: Node) -> View
-    requires { ⌜ used ≤ 1023 ⌝ }
-    ensures { λ r. ⌜ r ≡ viewBy teams room used stolen x ⌝ }
-{
-    View {
-        teams: teams,
-        room: room,
-        used: used,
-        stolen: stolen,
-        pair: used + 1,
-        node: x,
-    }
-}
-
-// The STOLEN count after a store of `new` over `old`.
-fn recount(stolen: u32, old: Node, new: Node) -> u32
-    requires { ⌜ stolen ≤ 1023 ⌝ }
-    ensures { λ r. ⌜ r ≡ stolen + stolenOf new - stolenOf old ⌝ }
-{
-    numbers::less_by(stolen + nodes::stolen_one(new), nodes::stolen_one(old))
 }
 
 // 1 for a team that has stopped, 0 for any other.
@@ -150,10 +113,17 @@ pub(crate) fn run(
         i += 1;
         let slot = team_slot(number);
         let team = teams[slot];
-        let place = node_slot(team.node);
+        let place = table::slot_for(team.node);
         let standing = book.nodes[place];
-        let node = node_for(team.node, standing);
-        let view = view_by(book.teams, book.room, book.used, stolen, node);
+        let node = table::node_for(team.node, standing);
+        let view = table::view_by(
+            book.teams,
+            book.room,
+            book.used,
+            stolen,
+            book.used + 1,
+            node,
+        );
         let t = teams::turn(numbers::natural(number), cap, team, view);
         printed = paper::note(out, printed, number, t);
         let moved = t.team;
@@ -161,18 +131,23 @@ pub(crate) fn run(
         let change = t.change;
         match change {
             Change::Keep => {}
-            Change::Store(x) => {
-                stolen = recount(stolen, node, x);
+            Change::Own(owner) => {
+                book.nodes[place].owner = owner;
+            }
+            Change::Advance(p) => {
+                let x = nodes::advanced_to(standing, p);
                 book.nodes[place] = x;
             }
-            Change::Split {
-                parent,
-                pair,
-                left,
-                right,
-            } => {
-                stolen = recount(stolen, node, parent);
-                book.nodes[place] = parent;
+            Change::Mark(p) => {
+                stolen += 1;
+                let x = nodes::marked_at(standing, p);
+                book.nodes[place] = x;
+            }
+            Change::Split(pair) => {
+                stolen = numbers::less_by(stolen, 1);
+                let left = nodes::left_part(standing);
+                let right = nodes::right_part(standing);
+                book.nodes[place].left = pair;
                 let a = (pair - 1) as usize;
                 book.nodes[a] = left;
                 let b = a + 1;

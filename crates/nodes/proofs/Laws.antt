@@ -10,8 +10,6 @@ use mir.Val.{hbits, toZ, ofZ}
 use Rattle.numbers.specs.Fields.{natOf}
 use Rattle.numbers.specs.Progress.{position}
 use Rattle.numbers.proofs.Signed.{told}
-use Rattle.rules.specs.declared.Node.{Node}
-use Rattle.rules.specs.Nodes.{positionOf, middle}
 
 -- a signed field that was tested
 pub natural-small : (z : ℤ) → mag z < 2 ^ hbits w32 → natOf z ≤ 2147483647
@@ -25,11 +23,6 @@ position-small (negsuc n) h = omega arith
 -- a signed field as it was read, and then converted
 pub natural-held : (z : ℤ) (k : ℕ) → mag z < 2 ^ hbits w32 → k ≡ natOf (toZ w32 (ofZ w32 z)) → natOf z ≡ k
 natural-held z k h e = sym (e ∙ ap natOf (told z h))
-
--- the middle of a node passes neither its end nor its position
-pub middle-small : (x : Node) (k : ℕ) → positionOf x ≤ k → x .until ≤ k → middle x ≤ k
-unfolding middle
-middle-small x k p u = omega arith
 
 -- a choice that was made
 pub chosen : {A : Type 0} (b : Bool) (x y z : A) → b ≡ true → z ≡ x → z ≡ cond b x y

@@ -1,10 +1,9 @@
 // One node: what it is, and each way to make one.
 ghost use mathlib.Core.Path.{_≡_};
-ghost use Prim.Native.Nat.{_≤_};
-ghost use Rattle.rules.specs.Limits.{maxUntil};
-ghost use Rattle.rules.specs.Nodes.{blank, fresh, owned, moved, parted, positionOf, leftOver, marked, unowned, childless, middle, leftPart, rightPart};
+ghost use Rattle.rules.specs.Nodes.{blank, owned, moved, parted, positionOf, leftOver, marked, unowned, childless, middle, leftPart};
 ghost use Rattle.rules.specs.States.{completed, stateOf, stolenOf};
 ghost use Rattle.rules.specs.Count.{restOf};
+ghost use Rattle.nodes.specs.Makers.{heldFresh, heldAdvanced, heldMarked, heldRight};
 use rules::Node;
 
 pub mod formed;
@@ -90,9 +89,9 @@ pub fn blank_node() -> Node
     }
 }
 
-// A start past the limits is no progress, and is never asked for.
+// A start past the limits is no progress, and is never asked for: the largest progress stands in for it.
 pub fn fresh_node(a: u32, b: u32) -> Node
-    ensures { λ r. ⌜ (a ≤ maxUntil → r ≡ fresh a b) ⌝ }
+    ensures { λ r. ⌜ r ≡ heldFresh a b ⌝ }
 {
     let p = numbers::to_signed(a);
     Node {
@@ -112,12 +111,26 @@ pub fn owned_by(x: Node, team: u32) -> Node
     y
 }
 
-pub fn moved_to(x: Node, p: i32) -> Node
+fn moved_to(x: Node, p: i32) -> Node
     ensures { λ r. ⌜ r ≡ moved x p ⌝ }
 {
     let mut y = x;
     y.progress = p;
     y
+}
+
+// The node, advanced to a position. As with a start, none past the limits is asked for.
+pub fn advanced_to(x: Node, p: u32) -> Node
+    ensures { λ r. ⌜ r ≡ heldAdvanced x p ⌝ }
+{
+    moved_to(x, numbers::to_signed(p))
+}
+
+// The node, marked at a position.
+pub fn marked_at(x: Node, p: u32) -> Node
+    ensures { λ r. ⌜ r ≡ heldMarked x p ⌝ }
+{
+    moved_to(x, numbers::mark_of(numbers::to_signed(p)))
 }
 
 pub fn parted_at(x: Node, left: u32) -> Node
@@ -136,7 +149,7 @@ pub fn left_part(x: Node) -> Node
 }
 
 pub fn right_part(x: Node) -> Node
-    ensures { λ r. ⌜ (x .until ≤ maxUntil → r ≡ rightPart x) ⌝ }
+    ensures { λ r. ⌜ r ≡ heldRight x ⌝ }
 {
     fresh_node(middle_of(x), x.until)
 }

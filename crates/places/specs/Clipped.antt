@@ -9,7 +9,7 @@ use Rattle.rules.specs.declared.Request.{Request}
 use Rattle.rules.specs.declared.Answer.{Answer}
 use Rattle.rules.specs.declared.View.{View}
 use Rattle.rules.specs.Asks.{request}
-use Rattle.rules.specs.Limits.{maxUntil, maxTeams, maxCap}
+use Rattle.rules.specs.Limits.{maxTeams, maxCap}
 use Rattle.steps.specs.declared.Team.{Team}
 use Rattle.steps.specs.Records.{maxNode, placed}
 use Rattle.steps.specs.Turn.{asks, moves}
@@ -53,7 +53,6 @@ pub record Limited (number : ℕ) (r : Team) : Type 0 where
 -- and what the team looks at, in a well-formed ledger
 pub record Ready (number : ℕ) (r : Team) (v : View) : Type 0 where
   pub limited : Limited number r
-  pub until-high : v .node .until ≤ maxUntil
   pub left-high : v .node .left ≤ maxNode
   pub pair-high : v .pair ≤ maxNode
 

@@ -1,7 +1,5 @@
 // What a request decides of the one node it names: its answer, and what it does to the node.
 ghost use mathlib.Core.Path.{_≡_};
-ghost use Prim.Native.Nat.{_≤_};
-ghost use Rattle.rules.specs.Limits.{maxUntil};
 ghost use Rattle.rules.specs.Requests.{refused, refusing, ranged, split, seen, outcome, owning, batchEnd, advancing, marking, expanding, looking, granted, decided};
 use rules::Answer;
 use rules::Change;
@@ -81,21 +79,12 @@ fn look_answer(x: Node) -> Answer
     }
 }
 
-fn unchanged(a: Answer) -> Outcome
-    ensures { λ o. ⌜ o ≡ outcome a Change.Keep ⌝ }
+fn outcome_of(a: Answer, c: Change) -> Outcome
+    ensures { λ o. ⌜ o ≡ outcome a c ⌝ }
 {
     Outcome {
         answer: a,
-        change: Change::Keep,
-    }
-}
-
-fn stored(a: Answer, x: Node) -> Outcome
-    ensures { λ o. ⌜ o ≡ outcome a (Change.Store x) ⌝ }
-{
-    Outcome {
-        answer: a,
-        change: Change::Store(x),
+        change: c,
     }
 }
 
@@ -103,8 +92,8 @@ fn own_outcome(v: View, r: Request) -> Outcome
     ensures { λ o. ⌜ o ≡ owning v r ⌝ }
 {
     let x = v.node;
-    let y = nodes::owned_by(x, numbers::natural(r.team));
-    stored(range_answer(x.start, x.until), y)
+    let team = numbers::natural(r.team);
+    outcome_of(range_answer(x.start, x.until), Change::Own(team))
 }
 
 // Two signed numbers that are not negative never make an unsigned sum wrap.
@@ -117,13 +106,12 @@ fn batch_end(x: Node, r: Request) -> u32
 }
 
 fn advance_outcome(v: View, r: Request) -> Outcome
-    ensures { λ o. ⌜ (v .node .until ≤ maxUntil → o ≡ advancing v r) ⌝ }
+    ensures { λ o. ⌜ o ≡ advancing v r ⌝ }
 {
     let x = v.node;
     let p = numbers::natural(r.position);
     let e = batch_end(x, r);
-    let y = nodes::moved_to(x, numbers::to_signed(e));
-    stored(range_answer(p, e), y)
+    outcome_of(range_answer(p, e), Change::Advance(e))
 }
 
 fn mark_outcome(v: View, r: Request) -> Outcome
@@ -131,39 +119,26 @@ fn mark_outcome(v: View, r: Request) -> Outcome
 {
     let x = v.node;
     let p = numbers::natural(r.position);
-    let y = nodes::moved_to(x, numbers::mark_of(r.position));
-    stored(range_answer(p, x.until), y)
+    outcome_of(range_answer(p, x.until), Change::Mark(p))
 }
 
 fn expand_outcome(v: View) -> Outcome
-    ensures { λ o. ⌜ (v .node .until ≤ maxUntil → o ≡ expanding v) ⌝ }
+    ensures { λ o. ⌜ o ≡ expanding v ⌝ }
 {
     let x = v.node;
     let pair = v.pair;
-    let y = nodes::parted_at(x, pair);
-    let a = nodes::left_part(x);
-    let b = nodes::right_part(x);
-    let answer = split_answer(pair, nodes::middle_of(x));
-    Outcome {
-        answer: answer,
-        change: Change::Split {
-            parent: y,
-            pair: pair,
-            left: a,
-            right: b,
-        },
-    }
+    outcome_of(split_answer(pair, nodes::middle_of(x)), Change::Split(pair))
 }
 
 fn look_outcome(v: View) -> Outcome
     ensures { λ o. ⌜ o ≡ looking v ⌝ }
 {
     let x = v.node;
-    unchanged(look_answer(x))
+    outcome_of(look_answer(x), Change::Keep)
 }
 
 fn granted_by(v: View, r: Request) -> Outcome
-    ensures { λ o. ⌜ (v .node .until ≤ maxUntil → o ≡ granted v r) ⌝ }
+    ensures { λ o. ⌜ o ≡ granted v r ⌝ }
 {
     let k = numbers::natural(r.kind);
     match k {
@@ -175,15 +150,14 @@ fn granted_by(v: View, r: Request) -> Outcome
     }
 }
 
-// What a request answers and does, by the one node it names. Of a well-formed ledger no node ends past the largest until, and there this
-// is the decision; it is no public call by itself.
+// What a request answers and does, by the one node it names.
 pub fn decide(v: View, r: Request) -> Outcome
-    ensures { λ o. ⌜ (v .node .until ≤ maxUntil → o ≡ decided v r) ⌝ }
+    ensures { λ o. ⌜ o ≡ decided v r ⌝ }
 {
     let code = refusals::refusal_of(v, r);
     if code != 0 {
         let a = refusing_by(v, code);
-        return unchanged(a);
+        return outcome_of(a, Change::Keep);
     }
     granted_by(v, r)
 }

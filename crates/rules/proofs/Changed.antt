@@ -1,28 +1,30 @@
--- What a request changes: nothing, or the node that it names, which is in use; a split is that of a STOLEN node.
+-- What a request changes: nothing, or the node that it names, which is in use. The position of an advance and of a mark lies in the node; a
+-- split is that of a STOLEN node.
 use mathlib.Core.Path.{_≡_}
-use Prim.Native.Nat.{ℕ}
+use mathlib.Core.Bool.{false}
+use Prim.Native.Nat.{ℕ, _≤_}
+use native.Mathlib.Omega.{arith}
 use native.Mathlib.Decide.{ℕ-discrete}
 use Rattle.numbers.specs.Fields.{natOf}
-use Rattle.rules.specs.declared.Node.{Node}
 use Rattle.rules.specs.declared.Ledger.{Ledger}
 use Rattle.rules.specs.declared.Request.{Request}
 use Rattle.rules.specs.declared.View.{View}
 use Rattle.rules.specs.declared.Change.{Change}
-use Rattle.rules.specs.declared.Change.the-variants.{Keep, Store, Split}
-use Rattle.rules.specs.Asks.{EXPAND}
-use Rattle.rules.specs.Nodes.{parted, leftPart, rightPart}
+use Rattle.rules.specs.declared.Change.the-variants.{Keep, Own, Advance, Mark, Split}
+use Rattle.rules.specs.Nodes.{marked, positionOf}
 use Rattle.rules.specs.Refusals.{kindCode, refusal}
-use Rattle.rules.specs.Requests.{owning, advancing, marking, expanding, looking, granted, decided, view, nodeIn}
+use Rattle.rules.specs.Requests.{owning, batchEnd, advancing, marking, expanding, looking, granted, decided, view, nodeIn}
 use Rattle.rules.specs.Table.{InUse, at, nextPair}
-use Rattle.rules.proofs.Granted.{asked-facts, expand-facts, decided-granted, decided-refused}
+use Rattle.rules.proofs.Granted.{asked-facts, advance-facts, mark-facts, expand-facts, decided-granted, decided-refused}
 use Rattle.rules.proofs.States.{Stolen}
 use Rattle.rules.proofs.Tests.{Kind, own, advance, mark, expand, look, kind-of}
 
 pub data Changes (l : Ledger) (n : ℕ) : Change → Type 0 where
   keeps : Changes l n Keep
-  stores : {x : Node} → InUse l n → Changes l n (Store x)
-  splits : InUse l n → Stolen (at l n)
-      → Changes l n (Split (parted (at l n) (nextPair l)) (nextPair l) (leftPart (at l n)) (rightPart (at l n)))
+  owns : {team : ℕ} → InUse l n → Changes l n (Own team)
+  advances : {p : ℕ} → InUse l n → marked (at l n) ≡ false → p ≤ at l n .until → Changes l n (Advance p)
+  marks : {p : ℕ} → InUse l n → marked (at l n) ≡ false → p ≡ positionOf (at l n) → Changes l n (Mark p)
+  splits : InUse l n → Stolen (at l n) → Changes l n (Split (nextPair l))
 
 module _ (l : Ledger) (q : Request) where
   abbrev n : ℕ
@@ -38,14 +40,18 @@ module _ (l : Ledger) (q : Request) where
       used : InUse l n
       used = let f = asked-facts v q e .0 .node in unfold view in (record { low = f .low; high = f .high })
 
-      was : natOf (q .kind) ≡ EXPAND → Stolen (at l n)
-      was k = unfold kindCode view in (expand-facts (at l n) (rw k at (asked-facts v q e .1)))
+      code : kindCode v q ≡ 0
+      code = asked-facts v q e .1
 
       go : Kind (natOf (q .kind)) → Changes l n (granted v q .change)
-      go (own k) = rw k (unfold owning in (stores used))
-      go (advance k) = rw k (unfold advancing in (stores used))
-      go (mark k) = rw k (unfold marking in (stores used))
-      go (expand k) = rw k (unfold expanding view in (splits used (was k)))
+      go (own k) = rw k (unfold owning in (owns used))
+      go (advance k) =
+          let f = advance-facts (at l n) q (unfold kindCode view in (rw k at code)) in
+          rw k (unfold advancing view in (advances {p = batchEnd (at l n) q} used (f .here .plain) (omega (arith, f .end))))
+      go (mark k) =
+          let f = mark-facts v q (asked-facts v q e .0 .team .is) (unfold kindCode in (rw k at code)) in
+          rw k (unfold marking view in (marks {p = natOf (q .position)} used (f .here .plain) (f .here .position-is)))
+      go (expand k) = rw k (unfold expanding view in (splits used (expand-facts (at l n) (unfold kindCode view in (rw k at code)))))
       go (look k) = rw k (unfold looking in keeps)
 
   pub changes : Changes l n (decided v q .change)

@@ -9,7 +9,7 @@ use native.Mathlib.Decide.{ℕ-discrete}
 use lib.Dec.{T}
 use lib.IntN.{ℤ, pos, negsuc}
 use borrow.Author.Tests.{eqb-true, eqb-false, ne-eqb, not-false}
-use Rattle.numbers.specs.Progress.{negative, position, mark as markOf}
+use Rattle.numbers.specs.Progress.{negative, position}
 use Rattle.numbers.specs.Fields.{isNat, within, natOf, sameNumber}
 use Rattle.numbers.proofs.Laws.{Within, within-true, isNat-true, isNat-made, same-true}
 use Rattle.rules.specs.declared.Node.{Node}
@@ -19,6 +19,7 @@ use Rattle.rules.specs.declared.Answered.{Answered}
 use Rattle.rules.specs.declared.View.{View}
 use Rattle.rules.specs.declared.Change.the-variants.{Keep}
 use Rattle.rules.specs.Asks.{OWN, ADVANCE, MARK, EXPAND, LOOK, lastKind}
+use Rattle.rules.specs.Demands.{ChildrenUnseen}
 use Rattle.rules.specs.Limits.{maxAmount}
 use Rattle.rules.specs.Nodes.{owned, moved, parted, marked, unowned, childless, positionOf, middle, leftPart, rightPart}
 use Rattle.rules.specs.States.{completed}
@@ -52,7 +53,6 @@ pub record Here (x : Node) (r : Request) : Type 0 where
   pub same : r .position ≡ x .progress
   pub progress-is : x .progress ≡ pos (positionOf x)
   pub position-is : natOf (r .position) ≡ positionOf x
-  pub mark-is : markOf (r .position) ≡ negsuc (positionOf x)
   pub more : positionOf x ≢ x .until
 
 pub record Advancing (x : Node) (r : Request) : Type 0 where
@@ -122,7 +122,6 @@ here-is x r plain going e =
       same = same;
       progress-is = u .0;
       position-is = u .1;
-      mark-is = ap markOf (same ∙ u .0);
       more = not-yet (x .progress) (x .until) plain going;
     }
 
@@ -250,16 +249,11 @@ module _ (l : Ledger) (r : Request) where
         let f = advance-facts x r (unfold kindCode in (rw e at code)) in
         rw e (advances-from _ (f .here .position-is) f)
 
-    -- a progress that is the position's mark
-    marks-as : (p : ℤ) → p ≡ negsuc (positionOf x) → Marking x r (l .used + 2 * stolenIn l) (l .room)
-        → Answers l r MARK (record { ledger = put l n (moved x p); answer = ranged (positionOf x) (x .until) })
-    marks-as p is f = rw is (marks asked f)
-
     given-mark : natOf (r .kind) ≡ MARK → Answers l r (natOf (r .kind)) given
     unfolding given granted changed marking view
     given-mark e =
         let f = mark-facts v r (asked .team .is) (unfold kindCode in (rw e at code)) in
-        rw (e, f .here .position-is) (marks-as _ (f .here .mark-is) f)
+        rw (e, f .here .position-is) (marks asked f)
 
     given-expand : natOf (r .kind) ≡ EXPAND → Answers l r (natOf (r .kind)) given
     unfolding given granted changed expanding view
@@ -286,6 +280,11 @@ decided-granted v r e = rw e
 pub decided-refused : (v : View) (r : Request) → refusal v r ≢ 0 → decided v r ≡ outcome (refusing v (refusal v r)) Keep
 unfolding decided
 decided-refused v r ne = rw (ne-eqb (refusal v r) 0 ne)
+
+-- no decision looks at the children
+pub children-unseen : ChildrenUnseen
+unfolding decided refusal kindCode markCode granted owning advancing marking expanding looking
+children-unseen v r = refl
 
 pub answers : (l : Ledger) (r : Request) → Answers l r (natOf (r .kind)) (answered l r)
 unfolding answered given

@@ -10,13 +10,14 @@ use Rattle.rules.specs.declared.Ledger.{Ledger}
 use Rattle.rules.specs.declared.Node.{Node}
 use Rattle.rules.specs.declared.Opening.{Opening}
 use Rattle.rules.specs.declared.Request.{Request}
+use Rattle.rules.specs.declared.View.{View}
 use Rattle.rules.specs.Count.{unclaimed, counted}
 use Rattle.rules.specs.Examples.{examples, AllRight}
 use Rattle.rules.specs.Limits.{maxUntil}
 use Rattle.rules.specs.Moves.{leads, isIn}
 use Rattle.rules.specs.Nodes.{blank, fresh, positionOf, leftOver, marked, leftPart, rightPart}
 use Rattle.rules.specs.Opening.{opening}
-use Rattle.rules.specs.Requests.{nodeIn, refusing, view, requested}
+use Rattle.rules.specs.Requests.{nodeIn, refusing, decided, view, alone, requested}
 use Rattle.rules.specs.States.{OWNED, COMPLETED, STOLEN, stateOf}
 use Rattle.rules.specs.Table.{InUse, at, nextPair}
 use Rattle.rules.specs.WellFormed.{wellFormed, Sized, Sound}
@@ -45,6 +46,10 @@ pub record Told (l : Ledger) (n : ℕ) (a : Answer) : Type 0 where
 abbrev pub LateSplitterTold : Type 0
 LateSplitterTold =
     (l : Ledger) (r : Request) → Sound l → requested l r .answer .code ≡ 16 → Told l (nodeIn r) (requested l r .answer)
+
+-- No request of the kinds 1 to 5 looks at its node's children.
+abbrev pub ChildrenUnseen : Type 0
+ChildrenUnseen = (v : View) (r : Request) → decided (alone v) r ≡ decided v r
 
 -- A pair to take: both its slots are within the room, and all 0.
 pub record HasPair (l : Ledger) : Type 0 where

@@ -12,10 +12,10 @@ use Rattle.rules.specs.declared.Answer.{Answer}
 use Rattle.rules.specs.declared.Answered.{Answered}
 use Rattle.rules.specs.declared.View.{View}
 use Rattle.rules.specs.declared.Change.{Change}
-use Rattle.rules.specs.declared.Change.the-variants.{Keep, Store, Split}
+use Rattle.rules.specs.declared.Change.the-variants.{Keep, Own, Advance, Mark, Split}
 use Rattle.rules.specs.declared.Outcome.{Outcome}
 use Rattle.rules.specs.Asks.{byKind}
-use Rattle.rules.specs.Nodes.{owned, moved, parted, positionOf, middle, leftPart, rightPart}
+use Rattle.rules.specs.Nodes.{blank, owned, moved, parted, positionOf, middle, leftPart, rightPart}
 use Rattle.rules.specs.States.{stateOf}
 use Rattle.rules.specs.Table.{at, put, nextPair, grown, stolenIn}
 use Rattle.rules.specs.Refusals.{refusal}
@@ -58,7 +58,7 @@ outcome a c = record { answer = a; change = c }
 
 -- "owner becomes the team. From, to: the node's range."
 unfoldable pub owning : View → Request → Outcome
-owning v r = outcome (ranged (v .node .start) (v .node .until)) (Store (owned (v .node) (natOf (r .team))))
+owning v r = outcome (ranged (v .node .start) (v .node .until)) (Own (natOf (r .team)))
 
 -- "the lesser of p + k and until"
 unfoldable pub batchEnd : Node → Request → ℕ
@@ -67,21 +67,15 @@ batchEnd x r = min (natOf (r .position) + natOf (r .amount)) (x .until)
 -- "progress becomes [that]; this batch is granted. From, to: the batch, to exclusive."
 unfoldable pub advancing : View → Request → Outcome
 advancing v r =
-    outcome
-    (ranged (natOf (r .position)) (batchEnd (v .node) r))
-    (Store (moved (v .node) (pos (batchEnd (v .node) r))))
+    outcome (ranged (natOf (r .position)) (batchEnd (v .node) r)) (Advance (batchEnd (v .node) r))
 
 -- "progress becomes −p−1. From p, to until."
 unfoldable pub marking : View → Request → Outcome
-marking v r =
-    outcome (ranged (natOf (r .position)) (v .node .until)) (Store (moved (v .node) (mark (r .position))))
+marking v r = outcome (ranged (natOf (r .position)) (v .node .until)) (Mark (natOf (r .position)))
 
 -- "the next two slots become left and right. Answer: left, and from = middle."
 unfoldable pub expanding : View → Outcome
-expanding v =
-    outcome
-    (split (v .pair) (middle (v .node)))
-    (Split (parted (v .node) (v .pair)) (v .pair) (leftPart (v .node)) (rightPart (v .node)))
+expanding v = outcome (split (v .pair) (middle (v .node))) (Split (v .pair))
 
 -- "Changes nothing."
 unfoldable pub looking : View → Outcome
@@ -105,13 +99,32 @@ view l n =
       stolen = stolenIn l;
       pair = nextPair l;
       node = at l n;
+      left = at l (at l n .left);
+      right = at l (at l n .left + 1);
+    }
+
+-- the view without the children, at which no request of the kinds 1 to 5 looks
+abbrev pub alone : View → View
+alone v =
+    record {
+      teams = v .teams;
+      room = v .room;
+      used = v .used;
+      stolen = v .stolen;
+      pair = v .pair;
+      node = v .node;
+      left = blank;
+      right = blank;
     }
 
 -- the ledger after a change at node n
 unfoldable pub changed : Ledger → ℕ → Change → Ledger
 changed l n Keep = l
-changed l n (Store x) = put l n x
-changed l n (Split x pair a b) = grown (put (put (put l n x) pair a) (pair + 1) b) pair
+changed l n (Own team) = put l n (owned (at l n) team)
+changed l n (Advance p) = put l n (moved (at l n) (pos p))
+changed l n (Mark p) = put l n (moved (at l n) (mark (pos p)))
+changed l n (Split c) =
+    grown (put (put (put l n (parted (at l n) c)) c (leftPart (at l n))) (c + 1) (rightPart (at l n))) c
 
 abbrev pub nodeIn : Request → ℕ
 nodeIn r = natOf (r .node)

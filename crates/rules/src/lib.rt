@@ -60,7 +60,7 @@ pub struct Answered {
     pub answer: Answer,
 }
 
-// All that a request sees of a well-formed ledger: a few numbers, the number that a new pair would get, and its node.
+// All that a request sees of a well-formed ledger: a few numbers, the number that a new pair would get, its node and that node's children.
 pub struct View {
     pub teams: u32,
     pub room: u32,
@@ -68,18 +68,18 @@ pub struct View {
     pub stolen: u32,
     pub pair: u32,
     pub node: Node,
+    pub left: Node,
+    pub right: Node,
 }
 
-// What a request does to the table: nothing, one node stored, or one node stored with a new pair of children.
+// What a request does to its node, and no more: nothing; the owner becomes a team; the progress becomes a position, or the mark of one; or the
+// node gets a pair of children.
 pub enum Change {
     Keep,
-    Store(Node),
-    Split {
-        parent: Node,
-        pair: u32,
-        left: Node,
-        right: Node,
-    },
+    Own(u32),
+    Advance(u32),
+    Mark(u32),
+    Split(u32),
 }
 
 pub struct Outcome {

@@ -52,8 +52,10 @@ used-grows l q w = rw (requested-wf l q w) (go (nodeIn q) (decided (view l (node
   where
     go : (n : ℕ) (c : Change) → l .used ≤ changed l n c .used
     go n change.Keep = unfold changed in (omega arith)
-    go n (change.Store y) = unfold changed put in (omega arith)
-    go n (change.Split y p u v) = unfold changed put grown in (omega arith)
+    go n (change.Own team) = unfold changed put in (omega arith)
+    go n (change.Advance p) = unfold changed put in (omega arith)
+    go n (change.Mark p) = unfold changed put in (omega arith)
+    go n (change.Split c) = unfold changed put grown in (omega arith)
 
 module _ (cap : ℕ) (l : Ledger) (w : WF l) (t : ℕ) (tl : 1 ≤ t) (th : t ≤ l .teams) (r : Team) (f : Fit cap (l .used) r) (some : 1 ≤ cap) where
   abbrev n : ℕ

@@ -16,7 +16,7 @@ use Rattle.rules.specs.declared.Ledger.{Ledger}
 use Rattle.rules.specs.declared.Opening.{Opening}
 use Rattle.rules.specs.declared.Request.{Request}
 use Rattle.rules.specs.declared.Change.{Change}
-use Rattle.rules.specs.declared.Change.the-variants.{Keep, Store}
+use Rattle.rules.specs.declared.Change.the-variants.{Keep}
 use Rattle.rules.specs.declared.Change.the-variants as change
 use Rattle.rules.specs.Limits.{opens}
 use Rattle.rules.specs.Opening.{opened, ledgerOf}
@@ -87,8 +87,10 @@ teams-kept l q w = rw (requested-wf l q w) (go (nodeIn q) (decided (view l (node
   where
     go : (n : ℕ) (c : Change) → changed l n c .teams ≡ l .teams
     go n Keep = unfold changed in refl
-    go n (Store y) = unfold changed put in refl
-    go n (change.Split y p u v) = unfold changed put grown in refl
+    go n (change.Own team) = unfold changed put in refl
+    go n (change.Advance p) = unfold changed put in refl
+    go n (change.Mark p) = unfold changed put in refl
+    go n (change.Split c) = unfold changed put grown in refl
 
 module _ (cap t : ℕ) (l : Ledger) (w : WF l) (r : Team) where
   wf-next : (q : Request) → WF (requested l q .ledger)

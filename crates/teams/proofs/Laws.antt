@@ -25,7 +25,6 @@ use Rattle.rules.proofs.Keeps.{requested-wf}
 use Rattle.rules.proofs.Record.{WF, rules, both-sound, used-high}
 use Rattle.rules.proofs.Spare.{spare}
 use Rattle.rules.proofs.Tests.{passed}
-use Rattle.ledger.proofs.Laws.{until-small}
 use Rattle.steps.specs.declared.Team.{Team}
 use Rattle.steps.specs.Records.{maxNode, isStopped}
 use Rattle.steps.specs.Step.{resting, stepFrom, stepAt, unfit, soloTests, soloCode}
@@ -85,7 +84,6 @@ module _ (l : Ledger) (s : Sound l) where
   ready number r n limited =
       record {
         limited = limited;
-        until-high = until-small l s n;
         left-high = any-child-small n;
         pair-high = omega (arith, spare l w .next, used-high l w);
       }

@@ -9,6 +9,7 @@ use native.Mathlib.Decide.{ℕ-discrete}
 use lib.Dec.{eqb}
 use lib.ListN.{getD}
 use Rattle.rules.specs.declared.Ledger.{Ledger}
+use Rattle.rules.specs.Limits.{maxNodes}
 use Rattle.rules.specs.Table.{sumBy}
 use Rattle.rules.specs.WellFormed.{upTo, leftIs, pairRule}
 use Rattle.forms.proofs.Laws.{upTo-none, upTo-more, upTo-same}
@@ -19,16 +20,16 @@ use Rattle.forms.proofs.pairs_ok.Tie as tie
 abbrev evenOnce : List ℕ → ℕ → Bool
 evenOnce seen n = not (eqb (n % 2) 0) || eqb (getD seen n 0) 1
 
--- the list counts every number below 1,023, and 1,023 is odd
+-- the list counts every number at which a pair can stand, and the last node's is odd
 counted : (l : Ledger) (seen : List ℕ)
-    → ((e : ℕ) → e < 1023 → getD seen e 0 ≡ sumBy (leftIs e) (l .nodes))
+    → ((e : ℕ) → e < maxNodes → getD seen e 0 ≡ sumBy (leftIs e) (l .nodes))
     → (n : ℕ)
-    → n ≤ 1023
+    → n ≤ maxNodes
     → evenOnce seen n ≡ pairRule l n
 unfolding pairRule
-counted l seen h n small = go (ℕ-discrete n 1023)
+counted l seen h n small = go (ℕ-discrete n maxNodes)
   where
-    go : Dec (n ≡ 1023) → evenOnce seen n ≡ pairRule l n
+    go : Dec (n ≡ maxNodes) → evenOnce seen n ≡ pairRule l n
     go (yes e) = rw e
     go (no ne) = rw (h n (omega arith))
 

@@ -5,6 +5,7 @@ use mathlib.Core.Path.{_≡_, sym, ap, _∙_}
 use Prim.Native.Nat.{_+_, _-_, _*_, _≤_, _<_}
 use lib.ListN.{length, take, getD}
 use lib.Seq.{take-all}
+use Rattle.rules.specs.Limits.{maxNodes}
 use Rattle.rules.specs.Nodes.{blank}
 use Rattle.rules.specs.States.{stolenOf}
 use Rattle.rules.proofs.States.{at-most-one}
@@ -15,10 +16,10 @@ use Rattle.forms.proofs.stolen_in.Statement.{statement}
 use Rattle.forms.proofs.stolen_in.Tie as tie
 
 abbrev Inv-loop : tie.InvT-loop
-Inv-loop l k₀ i₀ k i = (i ≤ 1023) × (k ≤ i) × (k ≡ sumBy stolenOf (take i (l .nodes))) × (length (l .nodes) ≡ 1023)
+Inv-loop l k₀ i₀ k i = (i ≤ maxNodes) × (k ≤ i) × (k ≡ sumBy stolenOf (take i (l .nodes))) × (length (l .nodes) ≡ maxNodes)
 
 abbrev μ-loop : tie.MeasureT-loop
-μ-loop l k₀ i₀ k i = 1023 - i
+μ-loop l k₀ i₀ k i = maxNodes - i
 
 loop-holds : tie.Need-loop-holds Inv-loop μ-loop
 loop-holds c = (omega arith, omega arith, sym (sumBy-none stolenOf (c .args .t1 .nodes)), search (needs, length-under))

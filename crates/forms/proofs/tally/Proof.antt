@@ -1,10 +1,11 @@
--- The invariant: each number below 1,023 has been counted over the first i slots.
+-- The invariant: each number at which a pair can stand has been counted over the first i slots.
 use borrow.Author.Needs.{needs}
 use native.Mathlib.Omega.{arith}
 use mathlib.Core.Path.{_≡_, ap, sym, _∙_}
 use Prim.Native.Nat.{ℕ, _+_, _-_, _≤_, _<_}
 use lib.ListN.{length, take, getD}
 use lib.Seq.{take-all}
+use Rattle.rules.specs.Limits.{maxNodes}
 use Rattle.rules.specs.Nodes.{blank}
 use Rattle.rules.specs.Table.{sumBy}
 use Rattle.rules.specs.WellFormed.{leftIs}
@@ -15,10 +16,10 @@ use Rattle.forms.proofs.tally.Statement.{statement}
 use Rattle.forms.proofs.tally.Tie as tie
 
 abbrev Inv-loop : tie.InvT-loop
-Inv-loop l seen₀ i₀ seen i = (i ≤ 1023) × (length seen ≡ 1024) × ((e : ℕ) → getD seen e 0 ≤ i) × ((e : ℕ) → e < 1023 → getD seen e 0 ≡ sumBy (leftIs e) (take i (l .nodes))) × (length (l .nodes) ≡ 1023)
+Inv-loop l seen₀ i₀ seen i = (i ≤ maxNodes) × (length seen ≡ maxNodes + 1) × ((e : ℕ) → getD seen e 0 ≤ i) × ((e : ℕ) → e < maxNodes → getD seen e 0 ≡ sumBy (leftIs e) (take i (l .nodes))) × (length (l .nodes) ≡ maxNodes)
 
 abbrev μ-loop : tie.MeasureT-loop
-μ-loop l seen₀ i₀ seen i = 1023 - i
+μ-loop l seen₀ i₀ seen i = maxNodes - i
 
 loop-holds : tie.Need-loop-holds Inv-loop μ-loop
 loop-holds c = (search needs, search needs, (λ e. rw (zeros 1024 e) (search needs)), (λ e h. zeros 1024 e ∙ sym (sumBy-none (leftIs e) (c .args .t1 .nodes))), search (needs, length-under))

@@ -5,6 +5,7 @@ use mathlib.Core.Path.{_≡_, ap, _∙_}
 use mathlib.Core.Bool.{_||_}
 use Prim.Native.Nat.{ℕ, _+_, _-_, _≤_, _<_}
 use lib.Dec.{leb}
+use Rattle.rules.specs.Limits.{maxNodes}
 use Rattle.rules.specs.WellFormed.{upTo, unusedRule, isBlank}
 use Rattle.rules.proofs.Nodes.{at-next}
 use Rattle.forms.proofs.Laws.{upTo-none, upTo-more}
@@ -12,10 +13,10 @@ use Rattle.forms.proofs.unused_ok.Statement.{statement}
 use Rattle.forms.proofs.unused_ok.Tie as tie
 
 abbrev Inv-loop : tie.InvT-loop
-Inv-loop l used ok₀ i₀ ok i = (i ≤ 1023) × (ok ≡ upTo (unusedRule l) i)
+Inv-loop l used ok₀ i₀ ok i = (i ≤ maxNodes) × (ok ≡ upTo (unusedRule l) i)
 
 abbrev μ-loop : tie.MeasureT-loop
-μ-loop l used ok₀ i₀ ok i = 1023 - i
+μ-loop l used ok₀ i₀ ok i = maxNodes - i
 
 loop-holds : tie.Need-loop-holds Inv-loop μ-loop
 loop-holds c = (search needs, upTo-none _)
@@ -46,7 +47,7 @@ unfolding unusedRule
 loop-again c = (search needs, upTo-more _ _ (c .before .before .before .loop .inv .1) (rw (at-next (c .before .before .before .before .args .t1) (c .before .before .before .loop .i)) (cc)))
 
 returns : tie.Need-returns Inv-loop μ-loop
-returns c = let e : c .before .loop .i ≡ 1023 = omega arith in cc
+returns c = let e : c .before .loop .i ≡ maxNodes = omega arith in cc
 
 pub unused-ok-spec : {M : Type 1} → statement M
 unused-ok-spec =

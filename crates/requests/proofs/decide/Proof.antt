@@ -10,6 +10,6 @@ decide-spec = tie.close (tie.spec
     (λ c κs. tt)
     (λ c κs. tt)
     (λ c κs. tt)
-    (λ c small. rw (← c .before .before .before .refusal-of .ensures, ne-eqb _ 0 (c .before .before .if1 .taken)) (cc))
+    (λ c. rw (← c .before .before .before .refusal-of .ensures, ne-eqb _ 0 (c .before .before .if1 .taken)) (cc))
     (λ c κs. tt)
-    (λ c small. rw (← c .before .before .refusal-of .ensures, eq-eqb _ 0 (c .before .if1 .left)) (c .granted-by .ensures small)))
+    (λ c. rw (← c .before .before .refusal-of .ensures, eq-eqb _ 0 (c .before .if1 .left)) (c .granted-by .ensures)))

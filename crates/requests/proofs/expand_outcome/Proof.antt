@@ -1,4 +1,4 @@
--- The node gets the pair, and the pair the two parts.
+-- The node gets the pair.
 use Rattle.rules.specs.Requests.{expanding}
 use Rattle.requests.proofs.expand_outcome.Statement.{statement}
 use Rattle.requests.proofs.expand_outcome.Tie as tie
@@ -9,6 +9,4 @@ expand-outcome-spec = tie.close (tie.spec
     (λ c κs. tt)
     (λ c κs. tt)
     (λ c κs. tt)
-    (λ c κs. tt)
-    (λ c κs. tt)
-    (λ c small. cc (c .before .before .right-part .ensures small)))
+    (λ c. cc))

@@ -10,6 +10,4 @@ mark-outcome-spec = tie.close (tie.spec
     (λ c κs. tt)
     (λ c κs. tt)
     (λ c κs. tt)
-    (λ c κs. tt)
-    (λ c κs. tt)
-    (λ c. cc (told (c .before .before .before .before .before .before .before .before .args .r .position) (c .before .before .before .before .before .before .struct-told .given .1 .1 .1 .0 .1), told (c .before .before .before .mark-of .result) (c .before .before .before .mark-of .ok))))
+    (λ c. cc (told (c .before .before .before .before .before .args .r .position) (c .before .before .before .struct-told .given .1 .1 .1 .0 .1))))

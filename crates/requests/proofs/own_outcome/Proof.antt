@@ -10,5 +10,4 @@ own-outcome-spec = tie.close (tie.spec
     (λ c κs. tt)
     (λ c κs. tt)
     (λ c κs. tt)
-    (λ c κs. tt)
-    (λ c. cc (told (c .before .before .before .before .before .before .args .r .team) (c .before .before .before .before .struct-told .given .1 .0 .1))))
+    (λ c. cc (told (c .before .before .before .before .before .args .r .team) (c .before .before .before .struct-told .given .1 .0 .1))))

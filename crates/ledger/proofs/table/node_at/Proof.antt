@@ -1,10 +1,5 @@
--- A number that is no slot reads as an unused slot.
-use native.Mathlib.Omega.{arith}
+-- Node n stands in slot n - 1.
 use borrow.Author.Needs.{needs}
-use mathlib.Core.Path.{_≡_, _∙_, sym}
-use Prim.Native.Nat.{_-_, _≤_}
-use lib.ListN.{length, List·getD-eq-default}
-use Rattle.forms.proofs.Laws.{length-under}
 use Rattle.rules.specs.Table.{at}
 use Rattle.ledger.proofs.table.node_at.Statement.{statement}
 use Rattle.ledger.proofs.table.node_at.Tie as tie
@@ -14,8 +9,5 @@ unfolding at
 node-at-spec = tie.close (tie.spec
     (λ c κs. tt)
     (λ c. search needs)
-    (λ c. search needs)
-    (λ c. search needs)
     (λ c κs. tt)
-    (λ c. cc)
-    (λ c. let a = c .before .before .before .args in let h : length (a .t1 .nodes) ≡ 1023 = search (needs, length-under) in let k : length (a .t1 .nodes) ≤ a .n - 1 = omega arith in c .blank-node .ensures ∙ sym (List·getD-eq-default (a .t1 .nodes) _ k)))
+    (λ c. cc))

@@ -1,7 +1,8 @@
--- A few numbers, and the node.
+-- A few numbers, the node and its children.
 use borrow.Author.Needs.{needs}
 use Rattle.rules.specs.Requests.{view}
 use Rattle.rules.specs.Table.{nextPair}
+use Rattle.rules.proofs.Nodes.{at-next}
 use Rattle.ledger.proofs.table.view_of.Statement.{statement}
 use Rattle.ledger.proofs.table.view_of.Tie as tie
 
@@ -13,4 +14,7 @@ view-of-spec =
     (λ c κs. tt)
     (λ c κs. tt)
     (λ c. search needs)
-    (λ c. cc))
+    (λ c κs. tt)
+    (λ c κs. tt)
+    (λ c. search needs)
+    (λ c. cc (at-next _ _)))

@@ -6,14 +6,13 @@ use mathlib.Core.Bool.{true}
 use mathlib.Core.List.{List}
 use Prim.Native.Nat.{ℕ, _+_, _-_, _≤_, _<_}
 use lib.IntN.{ℤ, pos}
-use lib.ListN.{length, getD, take}
+use lib.ListN.{length, getD, set, take}
 use mir.Syntax.{w32}
 use mir.Val.{toZ, ofZ}
 use Rattle.numbers.specs.Fields.{natOf, within}
 use Rattle.numbers.proofs.Signed.{held}
-use Rattle.rules.specs.declared.Node.{Node}
-use Rattle.rules.specs.Table.{stolenIn, at as nodeAt}
-use Rattle.steps.specs.Step.{slotOf, recordOf}
+use Rattle.rules.specs.Table.{nextPair, stolenIn}
+use Rattle.steps.specs.Step.{slotOf}
 use Rattle.rules.proofs.Record.{rules-back}
 use Rattle.steps.specs.Run.{Run, runSteps}
 use Rattle.listing_rules.specs.Steps.{runWith, runFrom, notes}
@@ -116,7 +115,7 @@ called c = noted c .before .before
 abbrev viewed : Moved-here → tie.After-view-by Inv-loop μ-loop
 viewed c = called c .before .before
 
-abbrev placed : Moved-here → tie.After-node-slot Inv-loop μ-loop
+abbrev placed : Moved-here → tie.After-slot-for Inv-loop μ-loop
 placed c = viewed c .before .before .before
 
 abbrev seated : Moved-here → Seated-here
@@ -128,26 +127,23 @@ read c = seated c .before
 abbrev at : Moved-here → tie.At-loop Inv-loop μ-loop
 at c = looped (read c)
 
-abbrev node : Moved-here → Node
-node c = viewed c .before .node-for .result
-
-place-inside : (c : Moved-here) → placed c .node-slot .result < 1023
-place-inside c = omega (arith, placed c .node-slot .ensures)
+place-inside : (c : Moved-here) → placed c .slot-for .result < 1023
+place-inside c = omega (arith, placed c .slot-for .ensures)
 
 few : (c : Moved-here) → at c .loop .stolen ≤ 1023
 few c = let w = stands (at c) .wf in omega (arith, at c .loop .inv .3, w .loaded, w .limits .room-high)
 
 turns : (c : Moved-here)
-    → (called c .turn .result ≡ taken (begins (at c .before)) (schedule (read c)) (at c .loop .i) (less (read c)) (at c .loop .book) (at c .loop .teams) (at c .loop .inv .4) (mine (read c)))
-    × (node c ≡ nodeAt (at c .loop .book) (recordOf (at c .loop .teams) (number (read c)) .node))
+    → called c .turn .result ≡ taken (begins (at c .before)) (schedule (read c)) (at c .loop .i) (less (read c)) (at c .loop .book) (at c .loop .teams) (at c .loop .inv .4) (mine (read c))
 turns c =
     let n = read c in
     let l = at c .loop in
     taken-is (begins (at c .before)) (schedule n) (l .i) (less n) (l .book) (l .teams) (l .inv .4) (mine n)
-    (seated c .team-slot .result) (placed c .node-slot .result) (l .stolen) (called c .before .natural2 .result) (node c) (viewed c .view-by .result) (called c .turn .result)
+    (seated c .team-slot .result) (placed c .slot-for .result) (l .stolen) (l .book .used + 1) (called c .before .natural2 .result) (viewed c .before .node-for .result) (viewed c .view-by .result) (called c .turn .result)
     (slot-is (seated c))
-    (placed c .node-slot .ensures)
+    (placed c .slot-for .ensures)
     (l .inv .3)
+    (unfold nextPair in refl)
     (viewed c .before .node-for .ensures)
     (viewed c .view-by .ensures)
     (rw (back n) at (called c .before .natural2 .ensures))
@@ -156,13 +152,13 @@ turns c =
 -- what the arms of the match store
 stores : (c : Moved-here)
     → let l = at c .loop in
-    Arms (capped (at c .before)) (first (at c .before)) (take (l .i + 1) (schedule (read c))) (l .book) (l .teams) (seated c .team-slot .result)
-    (placed c .node-slot .result) (l .stolen) (node c) (called c .turn .result)
+    Arms (capped (at c .before)) (first (at c .before)) (take (l .i + 1) (schedule (read c))) (l .book) (set (l .teams) (seated c .team-slot .result) (called c .turn .result .team))
+    (placed c .slot-for .result) (l .stolen) (called c .turn .result .change)
 stores c =
     let n = read c in
     let l = at c .loop in
     arms (begins (at c .before)) (schedule n) (l .i) (less n) (l .book) (l .teams) (l .inv .4) (mine n) (seated c .team-slot .result)
-    (placed c .node-slot .result) (l .stolen) (node c) (called c .turn .result) (slot-is (seated c)) (placed c .node-slot .ensures) (l .inv .3) (turns c .1) (turns c .0)
+    (placed c .slot-for .result) (l .stolen) (called c .turn .result) (slot-is (seated c)) (placed c .slot-for .ensures) (l .inv .3) (turns c)
 
 -- what is printed after any arm
 prints : (c : Moved-here)
@@ -181,18 +177,18 @@ prints c =
       noted c .note .kept .0 ∙ l .inv .1,
       noted c .note .ensures .1,
       inked (begins (at c .before)) (schedule n) (l .i) (less n) (l .book) (l .teams) (l .inv .4) (mine n) (paper (s .args .out .now) (s .args .done)) (paper (l .out) (l .printed)) _
-          (called c .turn .result) (turns c .0) (l .inv .5) (rw (back n) at (noted c .note .ensures .0)),
+          (called c .turn .result) (turns c) (l .inv .5) (rw (back n) at (noted c .note .ensures .0)),
     )
 
 -- the pair of a split
 abbrev Split-here : Type 0
-Split-here = tie.After-recount2 Inv-loop μ-loop
+Split-here = tie.After-known-told4 Inv-loop μ-loop
 
 abbrev from-split : Split-here → Moved-here
-from-split c = c .before .before .before .before
+from-split c = c .before .before .before
 
-pair-of : (c : Split-here) → let f = c .before .before .change2 .given .0 .1 .0 in (1 ≤ f) × (f + 1 ≤ 1023)
-pair-of c = stores (from-split c) .pair _ _ _ _ (c .before .before .change2 .given .1)
+pair-of : (c : Split-here) → let p = c .before .change4 .given .0 .0 in (1 ≤ p) × (p + 1 ≤ 1023)
+pair-of c = stores (from-split c) .pair _ (c .before .change4 .given .1)
 
 natural-requires : tie.Need-natural-requires Inv-loop μ-loop
 natural-requires c κs = search needs
@@ -225,8 +221,8 @@ mul-team c = let h = seat c in search needs
 array-copy-out-team : tie.Need-array-copy-out-team Inv-loop μ-loop
 array-copy-out-team c = seat c
 
-node-slot-requires : tie.Need-node-slot-requires Inv-loop μ-loop
-node-slot-requires c κs = search needs
+slot-for-requires : tie.Need-slot-for-requires Inv-loop μ-loop
+slot-for-requires c κs = search needs
 
 mul-standing : tie.Need-mul-standing Inv-loop μ-loop
 mul-standing c = search needs
@@ -237,8 +233,11 @@ element-copy-out-standing c = search needs
 node-for-requires : tie.Need-node-for-requires Inv-loop μ-loop
 node-for-requires c κs = search needs
 
+add-view-by : tie.Need-add-view-by Inv-loop μ-loop
+add-view-by c = let w = stands (looped (c .before .before .before .before .before)) .wf in omega (arith, w .used-room, w .limits .room-high)
+
 view-by-requires : tie.Need-view-by-requires Inv-loop μ-loop
-view-by-requires c κs = let w = stands (c .before .before .before .before .before .before .before) .wf in omega (arith, w .used-room, w .limits .room-high)
+view-by-requires c κs = search needs
 
 natural-requires-2 : tie.Need-natural-requires-2 Inv-loop μ-loop
 natural-requires-2 c κs = search needs
@@ -255,6 +254,8 @@ mul-teams c = let h = seat (seated c) in search needs
 array-set-from-teams : tie.Need-array-set-from-teams Inv-loop μ-loop
 array-set-from-teams c = seat (seated c)
 
+-- the arms of the match
+
 enum-told : tie.Need-enum-told Inv-loop μ-loop
 enum-told c = search needs
 
@@ -262,67 +263,109 @@ loop-less : tie.Need-loop-less Inv-loop μ-loop
 loop-less c = omega (arith, more (read (c .before .before)))
 
 loop-again : tie.Need-loop-again Inv-loop μ-loop
-loop-again c = let m = c .before .before in let p = prints m in (p .0, p .1, p .2, at m .loop .inv .3, stores m .keep (c .enum-told .given .1), p .3)
+loop-again c = let m = c .before .before in let p = prints m in let f = stores m .keep (c .enum-told .given .1) in (p .0, p .1, p .2, f .count, f .run, p .3)
 
 enum-known-change : tie.Need-enum-known-change Inv-loop μ-loop
 enum-known-change c = search needs
 
-recount-requires : tie.Need-recount-requires Inv-loop μ-loop
-recount-requires c κs = few (c .before .before .before)
+mul-book : tie.Need-mul-book Inv-loop μ-loop
+mul-book c = let h = place-inside (c .before .before .before) in search needs
 
-mul-x : tie.Need-mul-x Inv-loop μ-loop
-mul-x c = search needs
-
-element-set-from-x : tie.Need-element-set-from-x Inv-loop μ-loop
-element-set-from-x c = search needs
+way-write-given-book : tie.Need-way-write-given-book Inv-loop μ-loop
+way-write-given-book c = (place-inside (c .before .before .before), tt)
 
 loop-less-2 : tie.Need-loop-less-2 Inv-loop μ-loop
 loop-less-2 c = omega (arith, more (read (c .before .before .before .before)))
 
 loop-again-2 : tie.Need-loop-again-2 Inv-loop μ-loop
-loop-again-2 c = let m = c .before .before .before .before in let p = prints m in let f = stores m .store _ _ (c .before .before .change .given .1) (c .recount .ensures) in (p .0, p .1, p .2, f .0, f .1, p .3)
+loop-again-2 c = let m = c .before .before .before .before in let p = prints m in let f = stores m .own _ (c .before .before .change .given .1) in (p .0, p .1, p .2, f .count, f .run, p .3)
 
 enum-known-change-2 : tie.Need-enum-known-change-2 Inv-loop μ-loop
 enum-known-change-2 c = search needs
 
-recount-requires-2 : tie.Need-recount-requires-2 Inv-loop μ-loop
-recount-requires-2 c κs = few (c .before .before .before)
+advanced-to-requires : tie.Need-advanced-to-requires Inv-loop μ-loop
+advanced-to-requires c κs = search needs
 
-mul-parent : tie.Need-mul-parent Inv-loop μ-loop
-mul-parent c = let h = place-inside (from-split c) in search needs
+mul-x : tie.Need-mul-x Inv-loop μ-loop
+mul-x c = let h = place-inside (c .before .before .before .before) in search needs
 
-element-set-from-parent : tie.Need-element-set-from-parent Inv-loop μ-loop
-element-set-from-parent c = place-inside (from-split c)
-
-sub-a : tie.Need-sub-a Inv-loop μ-loop
-sub-a c = let h = pair-of c in omega (arith, h .0)
-
-cast-a : tie.Need-cast-a Inv-loop μ-loop
-cast-a c = let h = pair-of c in omega (arith, h .0, h .1)
-
-mul-left : tie.Need-mul-left Inv-loop μ-loop
-mul-left c = let h = pair-of c in omega (arith, h .0, h .1)
-
-element-set-from-left : tie.Need-element-set-from-left Inv-loop μ-loop
-element-set-from-left c = let h = pair-of c in omega (arith, h .0, h .1)
-
-add-b : tie.Need-add-b Inv-loop μ-loop
-add-b c = let h = pair-of c in omega (arith, h .0, h .1)
-
-mul-right : tie.Need-mul-right Inv-loop μ-loop
-mul-right c = let h = pair-of c in omega (arith, h .0, h .1)
-
-element-set-from-right : tie.Need-element-set-from-right Inv-loop μ-loop
-element-set-from-right c = let h = pair-of c in omega (arith, h .0, h .1)
-
-add-book : tie.Need-add-book Inv-loop μ-loop
-add-book c = let h = pair-of c in omega (arith, h .0, h .1)
+element-set-from-x : tie.Need-element-set-from-x Inv-loop μ-loop
+element-set-from-x c = place-inside (c .before .before .before .before)
 
 loop-less-3 : tie.Need-loop-less-3 Inv-loop μ-loop
-loop-less-3 c = omega (arith, more (read (from-split c)))
+loop-less-3 c = omega (arith, more (read (c .before .before .before .before)))
 
 loop-again-3 : tie.Need-loop-again-3 Inv-loop μ-loop
-loop-again-3 c = let m = from-split c in let p = prints m in let f = stores m .split _ _ _ _ _ (c .before .before .change2 .given .1) (c .recount2 .ensures) in (p .0, p .1, p .2, f .0, f .1, p .3)
+loop-again-3 c = let m = c .before .before .before .before in let p = prints m in let f = stores m .advance _ (c .before .before .change2 .given .1) in (p .0, p .1, p .2, rw (c .advanced-to .ensures) (f .count), rw (c .advanced-to .ensures) (f .run), p .3)
+
+enum-known-change-3 : tie.Need-enum-known-change-3 Inv-loop μ-loop
+enum-known-change-3 c = search needs
+
+add-stolen : tie.Need-add-stolen Inv-loop μ-loop
+add-stolen c = omega (arith, few (c .before .before .before))
+
+marked-at-requires : tie.Need-marked-at-requires Inv-loop μ-loop
+marked-at-requires c κs = search needs
+
+mul-x-2 : tie.Need-mul-x-2 Inv-loop μ-loop
+mul-x-2 c = let h = place-inside (c .before .before .before .before) in search needs
+
+element-set-from-x-2 : tie.Need-element-set-from-x-2 Inv-loop μ-loop
+element-set-from-x-2 c = place-inside (c .before .before .before .before)
+
+loop-less-4 : tie.Need-loop-less-4 Inv-loop μ-loop
+loop-less-4 c = omega (arith, more (read (c .before .before .before .before)))
+
+loop-again-4 : tie.Need-loop-again-4 Inv-loop μ-loop
+loop-again-4 c = let m = c .before .before .before .before in let p = prints m in let f = stores m .mark _ (c .before .before .change3 .given .1) in (p .0, p .1, p .2, rw (c .marked-at .ensures) (f .count), rw (c .marked-at .ensures) (f .run), p .3)
+
+enum-known-change-4 : tie.Need-enum-known-change-4 Inv-loop μ-loop
+enum-known-change-4 c = search needs
+
+less-by-requires : tie.Need-less-by-requires Inv-loop μ-loop
+less-by-requires c κs = search needs
+
+left-part-requires : tie.Need-left-part-requires Inv-loop μ-loop
+left-part-requires c κs = search needs
+
+right-part-requires : tie.Need-right-part-requires Inv-loop μ-loop
+right-part-requires c κs = search needs
+
+mul-book-2 : tie.Need-mul-book-2 Inv-loop μ-loop
+mul-book-2 c = let h = place-inside (from-split (c .before .before .before)) in search needs
+
+way-write-given-book-2 : tie.Need-way-write-given-book-2 Inv-loop μ-loop
+way-write-given-book-2 c = (place-inside (from-split (c .before .before .before)), tt)
+
+sub-a : tie.Need-sub-a Inv-loop μ-loop
+sub-a c = let h = pair-of (c .before .before .before .before) in omega (arith, h .0)
+
+cast-a : tie.Need-cast-a Inv-loop μ-loop
+cast-a c = let h = pair-of (c .before .before .before .before) in omega (arith, h .0, h .1)
+
+mul-left : tie.Need-mul-left Inv-loop μ-loop
+mul-left c = let h = pair-of (c .before .before .before .before) in omega (arith, h .0, h .1)
+
+element-set-from-left : tie.Need-element-set-from-left Inv-loop μ-loop
+element-set-from-left c = let h = pair-of (c .before .before .before .before) in omega (arith, h .0, h .1)
+
+add-b : tie.Need-add-b Inv-loop μ-loop
+add-b c = let h = pair-of (c .before .before .before .before) in omega (arith, h .0, h .1)
+
+mul-right : tie.Need-mul-right Inv-loop μ-loop
+mul-right c = let h = pair-of (c .before .before .before .before) in omega (arith, h .0, h .1)
+
+element-set-from-right : tie.Need-element-set-from-right Inv-loop μ-loop
+element-set-from-right c = let h = pair-of (c .before .before .before .before) in omega (arith, h .0, h .1)
+
+add-book : tie.Need-add-book Inv-loop μ-loop
+add-book c = let h = pair-of (c .before .before .before .before) in omega (arith, h .0, h .1)
+
+loop-less-5 : tie.Need-loop-less-5 Inv-loop μ-loop
+loop-less-5 c = omega (arith, more (read (from-split (c .before .before .before .before))))
+
+loop-again-5 : tie.Need-loop-again-5 Inv-loop μ-loop
+loop-again-5 c = let k = c .before .before .before .before in let m = from-split k in let p = prints m in let f = stores m .split _ (k .before .change4 .given .1) in (p .0, p .1, p .2, rw (c .before .before .before .less-by .ensures, c .before .before .left-part .ensures, c .before .right-part .ensures) (f .count), rw (c .before .before .left-part .ensures, c .before .right-part .ensures) (f .run), p .3)
 
 close-requires : tie.Need-close-requires Inv-loop μ-loop
 close-requires c κs = let a = c .before .before in let h = stands a in let w = h .wf in (a .loop .inv .2, rules-back (a .loop .book) w, w .limits .teams-high)
@@ -349,10 +392,11 @@ run-spec =
     team-slot-requires
     mul-team
     array-copy-out-team
-    node-slot-requires
+    slot-for-requires
     mul-standing
     element-copy-out-standing
     node-for-requires
+    add-view-by
     view-by-requires
     natural-requires-2
     turn-requires
@@ -363,15 +407,29 @@ run-spec =
     loop-less
     loop-again
     enum-known-change
-    recount-requires
-    mul-x
-    element-set-from-x
+    mul-book
+    way-write-given-book
     loop-less-2
     loop-again-2
     enum-known-change-2
-    recount-requires-2
-    mul-parent
-    element-set-from-parent
+    advanced-to-requires
+    mul-x
+    element-set-from-x
+    loop-less-3
+    loop-again-3
+    enum-known-change-3
+    add-stolen
+    marked-at-requires
+    mul-x-2
+    element-set-from-x-2
+    loop-less-4
+    loop-again-4
+    enum-known-change-4
+    less-by-requires
+    left-part-requires
+    right-part-requires
+    mul-book-2
+    way-write-given-book-2
     sub-a
     cast-a
     mul-left
@@ -380,8 +438,8 @@ run-spec =
     mul-right
     element-set-from-right
     add-book
-    loop-less-3
-    loop-again-3
+    loop-less-5
+    loop-again-5
     close-requires
     same-length
     returns)
