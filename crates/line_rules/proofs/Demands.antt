@@ -11,7 +11,7 @@ use Rattle.numbers.specs.Fields.{natOf}
 use Rattle.line_rules.specs.Decimal.{digit, spell, digits, decimal, readAfter, readDecimal}
 use Rattle.line_rules.specs.Line.{openLine, batchLine, splitLine, leftLine, refusedLine, Part, word, number, bytesOf, spaced, whole, space, lineEnd}
 use Rattle.line_rules.specs.Plain.{isDigit, isPlain, all}
-use Rattle.line_rules.specs.Demands.{NoLeadingZero, DigitsAlone, ReadsBack, PlainLines, AtMost40, Reaches40}
+use Rattle.line_rules.specs.Demands.{NoLeadingZero, DigitsAlone, ReadsBack, PlainLines, NoLineLonger, OneLineAsLong}
 use Rattle.line_rules.proofs.Decimal.{decimal-last, decimal-more, by-digits, decimal-some, decimal-width}
 
 -- ---- decimals
@@ -105,35 +105,35 @@ plain-lines (leftLine count stopped) = whole-plain _ _ refl refl
 plain-lines (refusedLine code line) = whole-plain _ _ refl refl
 
 -- ---- how long lines are
-pub reaches-40 : Reaches40
+pub one-line-as-long : OneLineAsLong
 unfolding whole spaced decimal digits spell
-reaches-40 = ((omega arith, (omega arith, (omega arith, (omega arith, (omega arith, tt))))), refl)
+one-line-as-long = ((omega arith, (omega arith, (omega arith, (omega arith, (omega arith, tt))))), refl)
 
-pub at-most-40 : AtMost40
+pub no-line-longer : NoLineLonger
 unfolding whole spaced
-at-most-40 (openLine start until teams cap nodes) h =
+no-line-longer (openLine start until teams cap nodes) h =
     let a = decimal-width 9 (natOf start) (omega arith) in
     let b = decimal-width 9 (natOf until) (omega arith) in
     let c = decimal-width 1 (natOf teams) (omega arith) in
     let d = decimal-width 3 (natOf cap) (omega arith) in
     let e = decimal-width 3 (natOf nodes) (omega arith) in
     simp length-append (omega arith)
-at-most-40 (batchLine team node from to) h =
+no-line-longer (batchLine team node from to) h =
     let a = decimal-width 1 (natOf team) (omega arith) in
     let b = decimal-width 3 (natOf node) (omega arith) in
     let c = decimal-width 9 (natOf from) (omega arith) in
     let d = decimal-width 9 (natOf to) (omega arith) in
     simp length-append (omega arith)
-at-most-40 (splitLine node left middle) h =
+no-line-longer (splitLine node left middle) h =
     let a = decimal-width 3 (natOf node) (omega arith) in
     let b = decimal-width 3 (natOf left) (omega arith) in
     let c = decimal-width 9 (natOf middle) (omega arith) in
     simp length-append (omega arith)
-at-most-40 (leftLine count stopped) h =
+no-line-longer (leftLine count stopped) h =
     let a = decimal-width 9 (natOf count) (omega arith) in
     let b = decimal-width 1 (natOf stopped) (omega arith) in
     simp length-append (omega arith)
-at-most-40 (refusedLine code line) h =
+no-line-longer (refusedLine code line) h =
     let a = decimal-width 1 (natOf code) (omega arith) in
     let b = decimal-width 9 (natOf line) (omega arith) in
     simp length-append (omega arith)

@@ -8,7 +8,7 @@ use Rattle.line_rules.specs.Decimal.{digit, decimal, readDecimal}
 use Rattle.line_rules.specs.Line.{Line, partsOf, text, anyNegative}
 use Rattle.line_rules.specs.Written.{refused, answer, after}
 use Rattle.line_rules.specs.Plain.{isDigit, isPlain, all}
-use Rattle.line_rules.specs.Longest.{limits, Kept, longest}
+use Rattle.line_rules.specs.Longest.{maxLine, limits, Kept, longest}
 
 -- "Decimals have no leading zero": 0 is the first digit of no other number than 0. (A list with no digit would count as one with 0.)
 abbrev pub NoLeadingZero : Type 0
@@ -25,12 +25,12 @@ ReadsBack = (n : ℕ) → readDecimal (decimal n) ≡ n
 abbrev pub PlainLines : Type 0
 PlainLines = (l : Line) → all isPlain (text l) ≡ true
 
--- "The longest that `sheets` prints has 40 bytes with its line end."
-abbrev pub AtMost40 : Type 0
-AtMost40 = (l : Line) → Kept (limits l) → length (text l) ≤ 40
+-- No line is longer than the longest, and one is as long.
+abbrev pub NoLineLonger : Type 0
+NoLineLonger = (l : Line) → Kept (limits l) → length (text l) ≤ maxLine
 
-abbrev pub Reaches40 : Type 0
-Reaches40 = Kept (limits longest) × (length (text longest) ≡ 40)
+abbrev pub OneLineAsLong : Type 0
+OneLineAsLong = Kept (limits longest) × (length (text longest) ≡ maxLine)
 
 -- ---- the line writer
 

@@ -1,10 +1,14 @@
--- The numbers that `sheets` prints: how large each can be.
+-- The numbers that `sheets` prints: how large each can be, and how long its lines are.
 use Prim.Native.Nat.{ℕ, _≤_}
 use mathlib.Core.List.{List, [], _∷_}
 use lib.IntN.{ℤ, pos}
 use Rattle.numbers.specs.Fields.{natOf}
 use Rattle.rules.specs.Limits.{maxUntil, maxTeams, maxCap, maxNodes}
 use Rattle.line_rules.specs.Line.{Line, openLine, batchLine, splitLine, leftLine, refusedLine}
+
+-- "the longest that `sheets` prints has 40 bytes with its line end"
+abbrev pub maxLine : ℕ
+maxLine = 40
 
 -- the last code of the table
 abbrev pub maxCode : ℕ

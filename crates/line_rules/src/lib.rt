@@ -5,3 +5,8 @@ pub struct Written {
     pub code: u32,
     pub length: usize,
 }
+
+impl Written {
+    // The bytes of the longest line that `sheets` prints, its line end among them.
+    pub const LONGEST: usize = 40;
+}

@@ -80,3 +80,16 @@ put-more area s now at i p room more =
 -- after a part there is room for k bytes more
 pub room-then : {a b s : List ℕ} {at next : ℕ} (k : ℕ) → Put a at s next b → at + (length s + k) ≤ length a → next + k ≤ length b
 room-then k p h = let l = put-length p (omega arith) in omega (arith, p .place)
+
+-- ---- two parts, one after the other
+
+module _ (a : List ℕ) (at : ℕ) (s t : List ℕ) (room : at + length (s ++ t) ≤ length a) where
+  pub first-room : at + length s ≤ length a
+  first-room = omega (arith, length-append s t)
+
+  module _ {b : List ℕ} {m : ℕ} (p : Put a at s m b) where
+    pub second-room : m + length t ≤ length b
+    second-room = room-then (length t) p (omega (arith, length-append s t))
+
+    pub both-put : {c : List ℕ} {n : ℕ} → Put b m t n c → Put a at (s ++ t) n c
+    both-put q = put-then p q first-room

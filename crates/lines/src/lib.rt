@@ -1,15 +1,21 @@
-// The line writer: each line of the listing, with its line end, at the start of an area that the caller lends.
+// The line writer: each line of the listing, with its line end, in an area that the caller lends.
 ghost use mathlib.Core.Path.{_≡_};
+ghost use mathlib.Core.Bool.{cond};
 ghost use mathlib.Core.List.{[], _∷_};
 ghost use Prim.Native.Nat.{_+_, _≤_, _<_};
+ghost use lib.Dec.{leb, eqb};
+ghost use lib.IntN.{pos};
 ghost use lib.ListN.{length};
 ghost use Rattle.numbers.specs.Fields.{natOf};
 ghost use Rattle.line_rules.specs.Decimal.{decimal};
-ghost use Rattle.line_rules.specs.Line.{space, openLine, batchLine, splitLine, leftLine, refusedLine, spaced, whole, anyNegative};
-ghost use Rattle.lines.specs.Shape.{fields, inside, parts, Small};
-ghost use Rattle.lines.specs.Area.{over, Put};
-ghost use Rattle.line_rules.specs.Written.{refused, answerTo, areaAfter, answer, after};
+ghost use Rattle.line_rules.specs.Line.{openLine, batchLine, splitLine, leftLine, refusedLine, number, space, text, anyNegative};
+ghost use Rattle.line_rules.specs.Written.{refused, granted, answer, after};
+ghost use Rattle.lines.specs.Area.{Put, added, addedTo};
+ghost use Rattle.lines.specs.Fields.{field, widths, ending, endStopped, endLeft, Few};
 use line_rules::Written;
+
+// The most bytes of a number after its space: the digits of a number of 64 bits, which is wider than those that a public call takes.
+const FIELD: usize = 21;
 
 // How many digits n has.
 fn width(n: u64) -> usize
@@ -52,105 +58,204 @@ fn put_number(area: &mut [u8], at: usize, n: u64) -> usize
 {
     let end = at + width(n);
     let mut last = end - 1;
-    let mut rest = n;
-    while 10 <= rest {
-        area[last] = b'0' + (rest % 10) as u8;
-        rest /= 10;
+    let mut high = n;
+    while 10 <= high {
+        area[last] = b'0' + (high % 10) as u8;
+        high /= 10;
         last -= 1;
     }
-    area[last] = b'0' + rest as u8;
+    area[last] = b'0' + high as u8;
     end
 }
 
-// A number after its space. A negative one counts as 0: no caller puts it.
-fn put_field(area: &mut [u8], at: usize, number: i32) -> usize
-    requires { ⌜ at + length (space ∷ decimal (natOf number)) ≤ length (now area) ⌝ }
-    ensures { λ r. ⌜ Put (now (area .entry)) at (space ∷ decimal (natOf number)) r (now (area .exit)) ⌝ }
+// A number after its space.
+fn put_field(area: &mut [u8], at: usize, n: u64) -> usize
+    requires { ⌜ at + length (field n) ≤ length (now area) ⌝ }
+    ensures { λ r. ⌜ Put (now (area .entry)) at (field n) r (now (area .exit)) ⌝ }
 {
     let next = put_byte(area, at, b' ');
-    put_number(area, next, numbers::natural(number) as u64)
+    put_number(area, next, n)
 }
 
-fn put_fields(area: &mut [u8], at: usize, numbers: &[i32]) -> usize
-    requires { ⌜ at + length (spaced (fields (now numbers))) ≤ length (now area) ⌝ }
-    ensures { λ r. ⌜ Put (now (area .entry)) at (spaced (fields (now (numbers .entry)))) r (now (area .exit)) ⌝ }
+// The last numbers of a line, and its line end: one, two, three, four or five. They are not taken from an array, which would cost as much
+// as their digits do.
+fn end_one(area: &mut [u8], at: usize, a: u64) -> usize
+    requires { ⌜ at + length (ending (a ∷ [])) ≤ length (now area) ⌝ }
+    ensures { λ r. ⌜ Put (now (area .entry)) at (ending (a ∷ [])) r (now (area .exit)) ⌝ }
 {
-    let mut next = at;
-    let mut i = 0;
-    while i < numbers.len() {
-        next = put_field(area, next, numbers[i]);
-        i += 1;
-    }
-    next
+    let next = put_field(area, at, a);
+    put_byte(area, next, b'\n')
 }
 
-// The word inside a line after its space; nothing where there is none.
+fn end_two(area: &mut [u8], at: usize, a: u64, b: u64) -> usize
+    requires { ⌜ at + length (ending (a ∷ b ∷ [])) ≤ length (now area) ⌝ }
+    ensures { λ r. ⌜ Put (now (area .entry)) at (ending (a ∷ b ∷ [])) r (now (area .exit)) ⌝ }
+{
+    let next = put_field(area, at, a);
+    end_one(area, next, b)
+}
+
+fn end_three(area: &mut [u8], at: usize, a: u64, b: u64, c: u64) -> usize
+    requires { ⌜ at + length (ending (a ∷ b ∷ c ∷ [])) ≤ length (now area) ⌝ }
+    ensures { λ r. ⌜ Put (now (area .entry)) at (ending (a ∷ b ∷ c ∷ [])) r (now (area .exit)) ⌝ }
+{
+    let next = put_field(area, at, a);
+    end_two(area, next, b, c)
+}
+
+fn end_four(area: &mut [u8], at: usize, a: u64, b: u64, c: u64, d: u64) -> usize
+    requires { ⌜ at + length (ending (a ∷ b ∷ c ∷ d ∷ [])) ≤ length (now area) ⌝ }
+    ensures { λ r. ⌜ Put (now (area .entry)) at (ending (a ∷ b ∷ c ∷ d ∷ [])) r (now (area .exit)) ⌝ }
+{
+    let next = put_field(area, at, a);
+    end_three(area, next, b, c, d)
+}
+
+fn end_five(area: &mut [u8], at: usize, a: u64, b: u64, c: u64, d: u64, e: u64) -> usize
+    requires { ⌜ at + length (ending (a ∷ b ∷ c ∷ d ∷ e ∷ [])) ≤ length (now area) ⌝ }
+    ensures { λ r. ⌜ Put (now (area .entry)) at (ending (a ∷ b ∷ c ∷ d ∷ e ∷ [])) r (now (area .exit)) ⌝ }
+{
+    let next = put_field(area, at, a);
+    end_four(area, next, b, c, d, e)
+}
+
+// The word inside a line, after its space.
 fn put_inside(area: &mut [u8], at: usize, word: &[u8]) -> usize
-    requires { ⌜ at + length (spaced (inside (now word))) ≤ length (now area) ⌝ }
-    ensures { λ r. ⌜ Put (now (area .entry)) at (spaced (inside (now (word .entry)))) r (now (area .exit)) ⌝ }
+    requires { ⌜ at + length (space ∷ now word) ≤ length (now area) ⌝ }
+    ensures { λ r. ⌜ Put (now (area .entry)) at (space ∷ now (word .entry)) r (now (area .exit)) ⌝ }
 {
-    if word.len() == 0 {
-        return at;
-    }
     let next = put_byte(area, at, b' ');
     put(area, next, word)
 }
 
-// Each width is that of the put of the same name.
-fn field_width(number: i32) -> usize
-    ensures { λ r. ⌜ (r ≡ length (space ∷ decimal (natOf number))) × (r ≤ 21) ⌝ }
+// What the left line has after its first word, and what it has after its first number.
+fn end_stopped(area: &mut [u8], at: usize, stopped: u64) -> usize
+    requires { ⌜ at + length (endStopped stopped) ≤ length (now area) ⌝ }
+    ensures { λ r. ⌜ Put (now (area .entry)) at (endStopped stopped) r (now (area .exit)) ⌝ }
 {
-    1 + width(numbers::natural(number) as u64)
+    let next = put_inside(area, at, b"stopped");
+    end_one(area, next, stopped)
 }
 
-fn fields_width(numbers: &[i32]) -> usize
+fn end_left(area: &mut [u8], at: usize, count: u64, stopped: u64) -> usize
+    requires { ⌜ at + length (endLeft count stopped) ≤ length (now area) ⌝ }
+    ensures { λ r. ⌜ Put (now (area .entry)) at (endLeft count stopped) r (now (area .exit)) ⌝ }
+{
+    let next = put_field(area, at, count);
+    end_stopped(area, next, stopped)
+}
+
+fn fields_width(numbers: &[u64]) -> usize
     requires { ⌜ length (now numbers) ≤ 8 ⌝ }
-    ensures { λ r. ⌜ (r ≡ length (spaced (fields (now (numbers .entry))))) × (r ≤ 168) ⌝ }
+    ensures { λ r. ⌜ (r ≡ widths (now (numbers .entry))) × (r ≤ 168) ⌝ }
 {
     let mut sum = 0;
     let mut i = 0;
     while i < numbers.len() {
-        sum += field_width(numbers[i]);
+        sum += 1 + width(numbers[i]);
         i += 1;
     }
     sum
 }
 
-fn inside_width(word: &[u8]) -> usize
-    requires { ⌜ length (now word) ≤ 8 ⌝ }
-    ensures { λ r. ⌜ (r ≡ length (spaced (inside (now (word .entry))))) × (r ≤ 9) ⌝ }
+// Whether so many bytes of words and these numbers have room after the first `at` bytes of an area. They are measured only where the
+// longest numbers would have none.
+fn fits(room: usize, at: usize, words: usize, numbers: &[u64]) -> bool
+    requires { ⌜ Few words (now numbers) ⌝ }
+    ensures { λ r. ⌜ r ≡ leb (at + (words + widths (now (numbers .entry)))) room ⌝ }
 {
-    if word.len() == 0 { 0 } else { 1 + word.len() }
-}
-
-fn any_negative(numbers: &[i32]) -> bool
-    ensures { λ r. ⌜ r ≡ anyNegative (fields (now (numbers .entry))) ⌝ }
-{
-    let mut any = false;
-    let mut i = 0;
-    while i < numbers.len() {
-        any = any | numbers::is_negative(numbers[i]);
-        i += 1;
+    if room < at {
+        return false;
     }
-    any
+    let left = room - at;
+    if words + FIELD * numbers.len() <= left {
+        return true;
+    }
+    words + fields_width(numbers) <= left
 }
 
-fn line_length(word: &[u8], numbers: &[i32], inner: &[u8], others: &[i32]) -> usize
-    requires { ⌜ Small (now word) (now numbers) (now inner) (now others) ⌝ }
-    ensures { λ r. ⌜ r ≡ length (whole (now (word .entry)) (parts (now (numbers .entry)) (now (inner .entry)) (now (others .entry)))) ⌝ }
+// A line after the first `at` bytes of an area, where it has room, and else nothing; the place after it. Each of these is total, and no
+// number that it is given is negative: it is for callers that know both.
+pub fn add_open(
+    area: &mut [u8],
+    at: usize,
+    start: u64,
+    until: u64,
+    teams: u64,
+    cap: u64,
+    nodes: u64,
+) -> usize
+    ensures { λ r. ⌜ r ≡ addedTo (text (openLine (pos start) (pos until) (pos teams) (pos cap) (pos nodes))) at (length (now (area .entry))) ⌝ }
+    ensures { λ _. ⌜ now (area .exit) ≡ added (text (openLine (pos start) (pos until) (pos teams) (pos cap) (pos nodes))) at (now (area .entry)) ⌝ }
 {
-    word.len() + fields_width(numbers) + inside_width(inner) + fields_width(others) + 1
+    if fits(area.len(), at, 5, &[start, until, teams, cap, nodes]) {
+        let next = put(area, at, b"open");
+        end_five(area, next, start, until, teams, cap, nodes)
+    } else {
+        at
+    }
 }
 
-fn put_line(area: &mut [u8], word: &[u8], numbers: &[i32], inner: &[u8], others: &[i32])
-    requires { ⌜ length (whole (now word) (parts (now numbers) (now inner) (now others))) ≤ length (now area) ⌝ }
-    ensures { λ _. ⌜ now (area .exit) ≡ over (now (area .entry)) 0 (whole (now (word .entry)) (parts (now (numbers .entry)) (now (inner .entry)) (now (others .entry)))) ⌝ }
+pub fn add_batch(area: &mut [u8], at: usize, team: u64, node: u64, from: u64, to: u64) -> usize
+    ensures { λ r. ⌜ r ≡ addedTo (text (batchLine (pos team) (pos node) (pos from) (pos to))) at (length (now (area .entry))) ⌝ }
+    ensures { λ _. ⌜ now (area .exit) ≡ added (text (batchLine (pos team) (pos node) (pos from) (pos to))) at (now (area .entry)) ⌝ }
 {
-    let next = put(area, 0, word);
-    let next = put_fields(area, next, numbers);
-    let next = put_inside(area, next, inner);
-    let next = put_fields(area, next, others);
-    put_byte(area, next, b'\n');
+    if fits(area.len(), at, 6, &[team, node, from, to]) {
+        let next = put(area, at, b"batch");
+        end_four(area, next, team, node, from, to)
+    } else {
+        at
+    }
+}
+
+pub fn add_split(area: &mut [u8], at: usize, node: u64, left: u64, middle: u64) -> usize
+    ensures { λ r. ⌜ r ≡ addedTo (text (splitLine (pos node) (pos left) (pos middle))) at (length (now (area .entry))) ⌝ }
+    ensures { λ _. ⌜ now (area .exit) ≡ added (text (splitLine (pos node) (pos left) (pos middle))) at (now (area .entry)) ⌝ }
+{
+    if fits(area.len(), at, 6, &[node, left, middle]) {
+        let next = put(area, at, b"split");
+        end_three(area, next, node, left, middle)
+    } else {
+        at
+    }
+}
+
+pub fn add_left(area: &mut [u8], at: usize, count: u64, stopped: u64) -> usize
+    ensures { λ r. ⌜ r ≡ addedTo (text (leftLine (pos count) (pos stopped))) at (length (now (area .entry))) ⌝ }
+    ensures { λ _. ⌜ now (area .exit) ≡ added (text (leftLine (pos count) (pos stopped))) at (now (area .entry)) ⌝ }
+{
+    if fits(area.len(), at, 13, &[count, stopped]) {
+        let next = put(area, at, b"left");
+        end_left(area, next, count, stopped)
+    } else {
+        at
+    }
+}
+
+pub fn add_refused(area: &mut [u8], at: usize, code: u64, line: u64) -> usize
+    ensures { λ r. ⌜ r ≡ addedTo (text (refusedLine (pos code) (pos line))) at (length (now (area .entry))) ⌝ }
+    ensures { λ _. ⌜ now (area .exit) ≡ added (text (refusedLine (pos code) (pos line))) at (now (area .entry)) ⌝ }
+{
+    if fits(area.len(), at, 8, &[code, line]) {
+        let next = put(area, at, b"refused");
+        end_two(area, next, code, line)
+    } else {
+        at
+    }
+}
+
+fn any_negative(a: i32, b: i32, c: i32, d: i32, e: i32) -> bool
+    ensures { λ r. ⌜ r ≡ anyNegative (number a ∷ number b ∷ number c ∷ number d ∷ number e ∷ []) ⌝ }
+{
+    let last = numbers::is_negative(d) | (numbers::is_negative(e) | false);
+    numbers::is_negative(a) | (numbers::is_negative(b) | (numbers::is_negative(c) | last))
+}
+
+// A number that is not negative, as wide as those of a line.
+fn wide(n: i32) -> u64
+    ensures { λ r. ⌜ r ≡ natOf n ⌝ }
+{
+    numbers::natural(n) as u64
 }
 
 fn refuse(code: u32) -> Written
@@ -162,33 +267,21 @@ fn refuse(code: u32) -> Written
     }
 }
 
-// A line of any kind: a word, numbers, perhaps a word inside, and numbers after that. It is measured before its first byte is put,
-// so that a refusal leaves the area as it was.
-fn write_line(
-    area: &mut [u8],
-    word: &[u8],
-    numbers: &[i32],
-    inner: &[u8],
-    others: &[i32],
-) -> Written
-    requires { ⌜ Small (now word) (now numbers) (now inner) (now others) ⌝ }
-    ensures { λ r. ⌜ r ≡ answerTo (now (word .entry)) (parts (now (numbers .entry)) (now (inner .entry)) (now (others .entry))) (length (now (area .entry))) ⌝ }
-    ensures { λ _. ⌜ now (area .exit) ≡ areaAfter (now (word .entry)) (parts (now (numbers .entry)) (now (inner .entry)) (now (others .entry))) (now (area .entry)) ⌝ }
+// The answer, by the place after a line at the start of an area: no line is empty, so that at 0 none was written.
+fn ended(end: usize) -> Written
+    ensures { λ r. ⌜ r ≡ cond (eqb end 0) (refused 28) (granted end) ⌝ }
 {
-    if any_negative(numbers) | any_negative(others) {
-        return refuse(25);
-    }
-    let length = line_length(word, numbers, inner, others);
-    if area.len() < length {
-        return refuse(28);
-    }
-    put_line(area, word, numbers, inner, others);
-    Written {
-        code: 0,
-        length: length,
+    if end == 0 {
+        refuse(28)
+    } else {
+        Written {
+            code: 0,
+            length: end,
+        }
     }
 }
 
+// A line at the start of an area.
 pub fn open_line(
     area: &mut [u8],
     start: i32,
@@ -200,33 +293,56 @@ pub fn open_line(
     ensures { λ r. ⌜ r ≡ answer (openLine start until teams cap nodes) (length (now (area .entry))) ⌝ }
     ensures { λ _. ⌜ now (area .exit) ≡ after (openLine start until teams cap nodes) (now (area .entry)) ⌝ }
 {
-    write_line(area, b"open", &[start, until, teams, cap, nodes], b"", &[])
+    if any_negative(start, until, teams, cap, nodes) {
+        return refuse(25);
+    }
+    ended(add_open(
+        area,
+        0,
+        wide(start),
+        wide(until),
+        wide(teams),
+        wide(cap),
+        wide(nodes),
+    ))
 }
 
 pub fn batch_line(area: &mut [u8], team: i32, node: i32, from: i32, to: i32) -> Written
     ensures { λ r. ⌜ r ≡ answer (batchLine team node from to) (length (now (area .entry))) ⌝ }
     ensures { λ _. ⌜ now (area .exit) ≡ after (batchLine team node from to) (now (area .entry)) ⌝ }
 {
-    write_line(area, b"batch", &[team, node, from, to], b"", &[])
+    if any_negative(team, node, from, to, 0) {
+        return refuse(25);
+    }
+    ended(add_batch(area, 0, wide(team), wide(node), wide(from), wide(to)))
 }
 
 pub fn split_line(area: &mut [u8], node: i32, left: i32, middle: i32) -> Written
     ensures { λ r. ⌜ r ≡ answer (splitLine node left middle) (length (now (area .entry))) ⌝ }
     ensures { λ _. ⌜ now (area .exit) ≡ after (splitLine node left middle) (now (area .entry)) ⌝ }
 {
-    write_line(area, b"split", &[node, left, middle], b"", &[])
+    if any_negative(node, left, middle, 0, 0) {
+        return refuse(25);
+    }
+    ended(add_split(area, 0, wide(node), wide(left), wide(middle)))
 }
 
 pub fn left_line(area: &mut [u8], count: i32, stopped: i32) -> Written
     ensures { λ r. ⌜ r ≡ answer (leftLine count stopped) (length (now (area .entry))) ⌝ }
     ensures { λ _. ⌜ now (area .exit) ≡ after (leftLine count stopped) (now (area .entry)) ⌝ }
 {
-    write_line(area, b"left", &[count], b"stopped", &[stopped])
+    if any_negative(count, stopped, 0, 0, 0) {
+        return refuse(25);
+    }
+    ended(add_left(area, 0, wide(count), wide(stopped)))
 }
 
 pub fn refused_line(area: &mut [u8], code: i32, line: i32) -> Written
     ensures { λ r. ⌜ r ≡ answer (refusedLine code line) (length (now (area .entry))) ⌝ }
     ensures { λ _. ⌜ now (area .exit) ≡ after (refusedLine code line) (now (area .entry)) ⌝ }
 {
-    write_line(area, b"refused", &[code, line], b"", &[])
+    if any_negative(code, line, 0, 0, 0) {
+        return refuse(25);
+    }
+    ended(add_refused(area, 0, wide(code), wide(line)))
 }

@@ -33,7 +33,7 @@ use Rattle.text_rules.specs.Demands.{scheduleRoom, WithinLimits}
 use Rattle.text_rules.proofs.Demands.{half-is-enough, granted-within-limits, same-marks, comments-never-matter}
 use Rattle.line_rules.specs.Line.{Line, leftLine, refusedLine, anyNegative, spaced, whole, text}
 use Rattle.line_rules.proofs.Decimal.{decimal-width}
-use Rattle.line_rules.proofs.Demands.{at-most-40}
+use Rattle.line_rules.proofs.Demands.{no-line-longer}
 use Rattle.listing_rules.specs.Steps.{headLine, lastLine, notes, startOf, endOf, runLines}
 use Rattle.listing_rules.specs.Listing.{teamsIn, linesBy, linesOf, bytesOf, listingOf}
 use Rattle.listing_rules.specs.Paper.{Paper, listed, paperOf}
@@ -120,7 +120,7 @@ module _ (room : ℕ) (bytes : List ℕ) (good : IsGranted room bytes) where
   head-sane =
       let f = opens-facts o ok in
       record {
-        short = at-most-40 (headLine o) (omega (arith, f .start .high, f .until .high), (f .until .high, (f .teams .high, (f .cap .high, (f .nodes .high, tt)))));
+        short = no-line-longer (headLine o) (omega (arith, f .start .high, f .until .high), (f .until .high, (f .teams .high, (f .cap .high, (f .nodes .high, tt)))));
         plain = rw (f .start .is, f .until .is, f .teams .is, f .cap .is, f .nodes .is);
       }
 
@@ -133,7 +133,7 @@ module _ (room : ℕ) (bytes : List ℕ) (good : IsGranted room bytes) where
 
   last-sane : Sane (lastLine (endOf o s))
   unfolding anyNegative
-  last-sane = let h = few-stopped in record { short = at-most-40 (lastLine (endOf o s)) (omega arith, (omega arith, tt)); plain = refl }
+  last-sane = let h = few-stopped in record { short = no-line-longer (lastLine (endOf o s)) (omega arith, (omega arith, tt)); plain = refl }
 
   run-sane : AllSane (linesOf room bytes)
   unfolding runLines

@@ -39,7 +39,7 @@ use Rattle.steps.specs.Turn.{asks, moves}
 use Rattle.steps.specs.Run.{Run, stepTeam, runSteps}
 use Rattle.steps.proofs.Turns.{asks-team}
 use Rattle.line_rules.specs.Line.{Line, batchLine, splitLine, anyNegative}
-use Rattle.line_rules.proofs.Demands.{at-most-40}
+use Rattle.line_rules.proofs.Demands.{no-line-longer}
 use Rattle.listing_rules.specs.Steps.{grants, noteOf, stepLine, runWith, runFrom, startOf, notes, runLines}
 use Rattle.listing_rules.specs.Grants.{claimsIn, asksIn, asked}
 use Rattle.listing_rules.proofs.Lines.{AllSane, none, more, sane-append}
@@ -63,7 +63,7 @@ batch-noted t n p e ht hn hp he =
     let b : min p 2147483647 ≡ p = omega arith in
     let c : min e 2147483647 ≡ e = omega arith in
     record {
-      sane = more (record { short = at-most-40 (batchLine (pos t) (signed n) (signed p) (signed e)) (ht, (omega arith, (omega arith, (omega arith, tt)))); plain = refl }) none;
+      sane = more (record { short = no-line-longer (batchLine (pos t) (signed n) (signed p) (signed e)) (ht, (omega arith, (omega arith, (omega arith, tt)))); plain = refl }) none;
       few = omega arith;
       claims = rw (a, b, c);
     }
@@ -72,7 +72,7 @@ split-noted : (n left mid : ℕ) → n ≤ 1023 → left ≤ 1023 → Noted 1 (s
 unfolding claimsIn anyNegative
 split-noted n left mid hn hl =
     record {
-      sane = more (record { short = at-most-40 (splitLine (signed n) (signed left) (signed mid)) (omega arith, (omega arith, (omega arith, tt))); plain = refl }) none;
+      sane = more (record { short = no-line-longer (splitLine (signed n) (signed left) (signed mid)) (omega arith, (omega arith, (omega arith, tt))); plain = refl }) none;
       few = omega arith;
       claims = refl;
     }

@@ -5,54 +5,54 @@ use native.Mathlib.Omega.{arith}
 use borrow.Author.Needs.{needs}
 use lib.ListN.{length, take}
 use lib.Seq.{take-length}
-use Rattle.numbers.proofs.Signed.{told}
-use Rattle.line_rules.specs.Line.{spaced}
-use Rattle.lines.specs.Shape.{fields}
-use Rattle.lines.proofs.Parts.{width-more}
+use Rattle.lines.specs.Fields.{widths}
+use Rattle.lines.proofs.Ending.{widths-more}
 use Rattle.lines.proofs.fields_width.Statement.{statement}
 use Rattle.lines.proofs.fields_width.Tie as tie
 
 abbrev Inv-loop : tie.InvT-loop
-Inv-loop numbers sum₀ i₀ sum i =
-    (i ≤ length numbers) × (sum ≡ length (spaced (fields (take i numbers)))) × (sum ≤ 21 * i)
+Inv-loop numbers sum₀ i₀ sum i = (i ≤ length numbers) × (sum ≡ widths (take i numbers)) × (sum ≤ 21 * i)
 
 abbrev μ-loop : tie.MeasureT-loop
 μ-loop numbers sum₀ i₀ sum i = length numbers - i
 
 loop-holds : tie.Need-loop-holds Inv-loop μ-loop
-unfolding spaced
+unfolding widths
 loop-holds c = (omega arith, refl, omega arith)
 
-mul-field-width : tie.Need-mul-field-width Inv-loop μ-loop
-mul-field-width c = search needs
+mul-width : tie.Need-mul-width Inv-loop μ-loop
+mul-width c = search needs
 
-shared-slice-copy-out-field-width : tie.Need-shared-slice-copy-out-field-width Inv-loop μ-loop
-shared-slice-copy-out-field-width c = omega arith
+shared-slice-read-width : tie.Need-shared-slice-read-width Inv-loop μ-loop
+shared-slice-read-width c = search needs
 
-field-width-requires : tie.Need-field-width-requires Inv-loop μ-loop
-field-width-requires c κs = search needs
+width-requires : tie.Need-width-requires Inv-loop μ-loop
+width-requires c κs = search needs
 
 add-sum : tie.Need-add-sum Inv-loop μ-loop
-add-sum c = omega arith
+add-sum c = omega (arith, c .width .ensures .1)
+
+add-sum-2 : tie.Need-add-sum-2 Inv-loop μ-loop
+add-sum-2 c = omega (arith, c .width .ensures .1)
 
 add-i : tie.Need-add-i Inv-loop μ-loop
-add-i c = omega arith
+add-i c = search needs
 
 loop-less : tie.Need-loop-less Inv-loop μ-loop
-loop-less c = omega arith
+loop-less c = search needs
 
 loop-again : tie.Need-loop-again Inv-loop μ-loop
 loop-again c =
     let l = c .before .before .before .loop in
-    let w = rw (told _ (c .before .field-width-arg .given)) at (c .field-width .ensures .0) in
-    let more = width-more (c .before .before .before .before .args .numbers .now) (l .i) (c .before .before .loop-test .taken) in
-    (omega arith, omega arith, omega arith)
+    let w = c .width .ensures in
+    let more = widths-more (c .before .before .before .before .before .args .numbers .now) (l .i) (c .before .before .loop-test .taken) in
+    (omega arith, omega (arith, w .0), omega (arith, w .1))
 
 returns : tie.Need-returns Inv-loop μ-loop
 returns c =
     let l = c .before .loop in
-    let all : l .i ≡ length (c .before .before .args .numbers .now) = omega arith in
-    (rw (all, take-length (c .before .before .args .numbers .now)) at (l .inv .1), omega arith)
+    let all : l .i ≡ length (c .before .before .before .args .numbers .now) = omega arith in
+    (rw (all, take-length (c .before .before .before .args .numbers .now)) at (l .inv .1), omega arith)
 
 pub fields-width-spec : {M : Type 1} → statement M
 fields-width-spec =
@@ -61,10 +61,11 @@ fields-width-spec =
     Inv-loop
     μ-loop
     loop-holds
-    mul-field-width
-    shared-slice-copy-out-field-width
-    field-width-requires
+    mul-width
+    shared-slice-read-width
+    width-requires
     add-sum
+    add-sum-2
     add-i
     loop-less
     loop-again

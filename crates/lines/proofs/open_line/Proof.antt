@@ -1,38 +1,71 @@
--- The line writer at the word open and the header's numbers.
+-- The numbers are tested, and the open line is added at the start of the area.
 use borrow.Author.Needs.{needs}
 use Rattle.numbers.proofs.Signed.{held}
+use Rattle.line_rules.specs.Line.{openLine, spaced, whole, anyNegative}
+use Rattle.lines.proofs.Added.{answers-negative, answers}
 use Rattle.lines.proofs.open_line.Statement.{statement}
 use Rattle.lines.proofs.open_line.Tie as tie
 
-slice-aggregate-write-line : tie.Need-slice-aggregate-write-line
-slice-aggregate-write-line c = search needs
+any-negative-requires : tie.Need-any-negative-requires
+any-negative-requires c κs = search needs
 
-slice-aggregate-write-line-2 : tie.Need-slice-aggregate-write-line-2
-slice-aggregate-write-line-2 c = search needs
+refuse-requires : tie.Need-refuse-requires
+refuse-requires c κs = search needs
 
-slice-aggregate-write-line-3 : tie.Need-slice-aggregate-write-line-3
-slice-aggregate-write-line-3 c = search needs
+returns : tie.Need-returns
+unfolding anyNegative
+returns c =
+    let s = c .before .before .before .before in
+    let n = rw (held _ (s .fits .start), held _ (s .fits .until), held _ (s .fits .teams), held _ (s .fits .cap), held _ (s .fits .nodes)) at (c .before .before .any-negative .ensures) in
+    let a = answers-negative (openLine (s .args .start) (s .args .until) (s .args .teams) (s .args .cap) (s .args .nodes)) (s .args .area .now) (rw n at (c .before .if1 .taken)) (c .refuse .ensures) in
+    (a .answered, a .left)
 
-slice-aggregate-write-line-4 : tie.Need-slice-aggregate-write-line-4
-slice-aggregate-write-line-4 c = search needs
+wide-requires : tie.Need-wide-requires
+wide-requires c κs = search needs
 
-write-line-requires : tie.Need-write-line-requires
-write-line-requires c κs = search needs
+wide-requires-2 : tie.Need-wide-requires-2
+wide-requires-2 c κs = search needs
+
+wide-requires-3 : tie.Need-wide-requires-3
+wide-requires-3 c κs = search needs
+
+wide-requires-4 : tie.Need-wide-requires-4
+wide-requires-4 c κs = search needs
+
+wide-requires-5 : tie.Need-wide-requires-5
+wide-requires-5 c κs = search needs
+
+add-open-requires : tie.Need-add-open-requires
+add-open-requires c κs = search needs
+
+ended-requires : tie.Need-ended-requires
+ended-requires c κs = search needs
 
 same-length : tie.Need-same-length
 same-length c = search needs
 
-returns : tie.Need-returns
-returns c = let f = c .before .before .before .before .before .before .before .before .before .fits in rw (held _ (f .start), held _ (f .until), held _ (f .teams), held _ (f .cap), held _ (f .nodes)) at (c .before .before .write-line .ensures)
+returns-2 : tie.Need-returns-2
+unfolding anyNegative whole spaced
+returns-2 c =
+    let s = c .before .before .before .before .before .before .before .before .before .before .before .before .before in
+    let n = rw (held _ (s .fits .start), held _ (s .fits .until), held _ (s .fits .teams), held _ (s .fits .cap), held _ (s .fits .nodes)) at (c .before .before .before .before .before .before .before .before .before .before .before .any-negative .ensures) in
+    let e = rw (c .before .before .before .before .before .before .before .before .wide .ensures, c .before .before .before .before .before .before .before .wide2 .ensures, c .before .before .before .before .before .before .wide3 .ensures, c .before .before .before .before .before .wide4 .ensures, c .before .before .before .before .wide5 .ensures, held _ (s .fits .start), held _ (s .fits .until), held _ (s .fits .teams), held _ (s .fits .cap), held _ (s .fits .nodes)) at (c .before .before .before .add-open .ensures) in
+    let a = answers (openLine (s .args .start) (s .args .until) (s .args .teams) (s .args .cap) (s .args .nodes)) (s .args .area .now) (rw n at (c .before .before .before .before .before .before .before .before .before .before .if1 .left)) (e .0) (e .1) (c .ended .ensures) in
+    (a .answered, a .left)
 
 pub open-line-spec : {M : Type 1} → statement M
 open-line-spec =
     tie.close
     (tie.spec
-    slice-aggregate-write-line
-    slice-aggregate-write-line-2
-    slice-aggregate-write-line-3
-    slice-aggregate-write-line-4
-    write-line-requires
+    any-negative-requires
+    refuse-requires
+    returns
+    wide-requires
+    wide-requires-2
+    wide-requires-3
+    wide-requires-4
+    wide-requires-5
+    add-open-requires
+    ended-requires
     same-length
-    returns)
+    returns-2)

@@ -11,10 +11,10 @@ use Rattle.lines.proofs.put_number.Statement.{statement}
 use Rattle.lines.proofs.put_number.Tie as tie
 
 abbrev Inv-loop : tie.InvT-loop
-Inv-loop area₀ at n end last₀ rest₀ area last rest = (at + length (decimal n) ≤ length area₀) × (end ≡ at + length (decimal n)) × (length area ≡ length area₀) × Behind area₀ at n last rest area
+Inv-loop area₀ at n end last₀ high₀ area last high = (at + length (decimal n) ≤ length area₀) × (end ≡ at + length (decimal n)) × (length area ≡ length area₀) × Behind area₀ at n last high area
 
 abbrev μ-loop : tie.MeasureT-loop
-μ-loop area₀ at n end last₀ rest₀ area last rest = rest
+μ-loop area₀ at n end last₀ high₀ area last high = high
 
 width-requires : tie.Need-width-requires Inv-loop μ-loop
 width-requires c κs = search needs
