@@ -29,6 +29,14 @@ module _ (line area : List ℕ) (at : ℕ) where
   unfolding added addedTo
   adds-nothing h = let e = lt-leb (at + length line) (length area) h in record { place = rw e; bytes = rw e }
 
+-- with room it is put
+pub added-put : {line area later : List ℕ} {at next : ℕ} → at + length line ≤ length area → next ≡ addedTo line at (length area) → later ≡ added line at area
+    → Put area at line next later
+unfolding added addedTo
+added-put {line} {area} {later} {at} h ends bytes =
+    let e = le-leb (at + length line) (length area) h in
+    record { place = ends ∙ rw e; bytes = bytes ∙ rw e }
+
 -- ---- a line that is a word and what comes after it, by the test of its room
 
 module _ (line w e area : List ℕ) (at n : ℕ) {b : Bool} (is : line ≡ w ++ e) (size : n ≡ length (w ++ e)) (test : b ≡ leb (at + n) (length area)) where
@@ -44,7 +52,7 @@ module _ (line w e area : List ℕ) (at n : ℕ) {b : Bool} (is : line ≡ w ++ 
 -- ---- the answer to a public call
 
 -- at the start of an area
-over-start : (area s : List ℕ) → over area 0 s ≡ atStart s area
+pub over-start : (area s : List ℕ) → over area 0 s ≡ atStart s area
 unfolding over
 over-start area s = rw zero-add
 

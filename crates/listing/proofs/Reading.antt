@@ -1,13 +1,13 @@
--- From the text to the run, and from the lines printed to the whole listing.
-use mathlib.Core.Path.{_≡_, ap, ap₂, _∙_}
+-- From the text to the run, and from the run's lines to the whole listing.
+use mathlib.Core.Path.{_≡_, _∙_}
 use mathlib.Core.Logic.{_≢_}
-use mathlib.Core.List.{List, [], _∷_, _++_, map}
-use Prim.Native.Nat.{ℕ}
+use mathlib.Core.List.{List, map}
+use Prim.Native.Nat.{ℕ, _+_, _≤_}
+use native.Mathlib.Nat.{zero-add}
 use native.Mathlib.Omega.{arith}
 use lib.IntN.{ℤ}
 use lib.ListN.{length, take, drop, length-map, length-append}
 use lib.Seq.{take-at}
-use borrow.Author.Tests.{ne-eqb}
 use Rattle.numbers.specs.Progress.{signed}
 use Rattle.numbers.specs.Fields.{natOf}
 use Rattle.rules.proofs.Opens.{opens-facts}
@@ -18,11 +18,15 @@ use Rattle.text_rules.specs.Answers.{scheduleOf, filled, areaOf}
 use Rattle.text_rules.specs.Demands.{WithinLimits}
 use Rattle.text_rules.proofs.Demands.{granted-within-limits}
 use Rattle.listing_rules.proofs.Teams.{front-teams}
-use Rattle.line_rules.specs.Line.{refusedLine}
-use Rattle.listing_rules.specs.declared.Listed.{Listed}
-use Rattle.listing_rules.specs.Steps.{startOf, endOf, notes, headLine, lastLine, runLines}
-use Rattle.listing_rules.specs.Listing.{teamsIn, linesOf}
-use Rattle.listing_rules.specs.Paper.{Paper, paper, blankPaper, printed, printedAll, listed, paperOf, answerTo, areaAfter}
+use Rattle.line_rules.specs.Line.{refusedLine, text}
+use Rattle.line_rules.specs.Written.{atStart}
+use Rattle.lines.specs.Area.{Put}
+use Rattle.lines.proofs.Added.{over-start}
+use Rattle.listing_rules.specs.Steps.{runLines}
+use Rattle.listing_rules.specs.Listing.{teamsIn, linesOf, bytesOf}
+use Rattle.listing_rules.specs.Lent.{roomFor}
+use Rattle.listing_rules.proofs.Lines.{one-line}
+use Rattle.listing_rules.proofs.Demands.{refused-lines, granted-lines, refusal-short}
 use Rattle.listing.specs.Table.{Runnable}
 
 module _ (bytes : List ℕ) (area later : List ℤ) (s : Schedule) (is : s ≡ scheduleOf (length area) bytes) (filled-is : later ≡ areaOf bytes area)
@@ -40,6 +44,9 @@ module _ (bytes : List ℕ) (area later : List ℤ) (s : Schedule) (is : s ≡ s
   count-is : s .count ≡ length ns
   count-is = rw is (limits .count)
 
+  pub count-fits : s .count ≤ length area
+  count-fits = rw count-is (limits .fits)
+
   pub steps-are : take (s .count) later ≡ teamsIn bytes
   steps-are = rw (count-is, later-is) (take-at (map signed ns) (drop (length ns) area) (length ns) (length-map ns signed))
 
@@ -56,28 +63,28 @@ module _ (bytes : List ℕ) (area later : List ℤ) (s : Schedule) (is : s ≡ s
 
 -- ---- the whole listing
 
-module _ (room : ℕ) (bytes out later : List ℕ) (s : Schedule) (done r : Listed) (is : s ≡ scheduleOf room bytes)
-    (settled : r ≡ listed (done .code) (done .length)) where
-  Whole : Type 0
-  Whole = (r ≡ answerTo room bytes out) × (later ≡ areaAfter room bytes out)
+-- bytes at the start of an area, their count and the area
+pub record Stands (area : List ℕ) (listing : List ℕ) (r : ℕ) (later : List ℕ) : Type 0 where
+  pub length-is : r ≡ length listing
+  pub bytes : later ≡ atStart listing area
 
-  whole : paper later done ≡ paperOf room bytes out → Whole
-  unfolding Whole
-  whole e =
-      (settled ∙ ap₂ listed (ap (λ (p : Paper). p .code) e) (ap (λ (p : Paper). p .length) e), ap (λ (p : Paper). p .area) e)
+put-stands : {area listing later : List ℕ} {r : ℕ} → Put area 0 listing r later → Stands area listing r later
+put-stands {area} {listing} p = record { length-is = p .place ∙ zero-add (length listing); bytes = p .bytes ∙ over-start area listing }
 
-  pub refused-whole : s .code ≢ 0
-      → paper later done ≡ printed (blankPaper out) (refusedLine (signed (s .code)) (signed (s .line)))
-      → (r ≡ answerTo room bytes out) × (later ≡ areaAfter room bytes out)
-  unfolding paperOf linesOf Whole printedAll
-  refused-whole bad e = whole (e ∙ rw (← is, ne-eqb (s .code) 0 bad))
+module _ (room : ℕ) (bytes out : List ℕ) (s : Schedule) (is : s ≡ scheduleOf room bytes) where
+  pub refused-room : s .code ≢ 0 → roomFor room ≤ length out
+      → 0 + length (text (refusedLine (signed (s .code)) (signed (s .line)))) ≤ length out
+  refused-room bad enough = rw is (omega (arith, refusal-short room bytes))
 
-  pub granted-whole : (opened : Paper) (schedule : List ℤ)
+  pub refused-whole : {r : ℕ} {later : List ℕ}
+      → s .code ≢ 0
+      → Put out 0 (text (refusedLine (signed (s .code)) (signed (s .line)))) r later
+      → Stands out (bytesOf (linesOf room bytes)) r later
+  refused-whole bad p = rw (refused-lines room bytes (rw is at bad), one-line) (rw is at (put-stands p))
+
+  pub granted-whole : {r : ℕ} {later : List ℕ} (schedule : List ℤ)
       → s .code ≡ 0
-      → opened ≡ printed (blankPaper out) (headLine (s .opening))
       → schedule ≡ teamsIn bytes
-      → paper later done
-      ≡ printedAll opened (notes (s .opening .cap) (startOf (s .opening)) schedule ++ (lastLine (endOf (s .opening) schedule) ∷ []))
-      → (r ≡ answerTo room bytes out) × (later ≡ areaAfter room bytes out)
-  unfolding paperOf linesOf Whole printedAll runLines
-  granted-whole opened schedule good eo es e = whole (e ∙ rw (← is, good, es, eo))
+      → Put out 0 (bytesOf (runLines (s .opening) schedule)) r later
+      → Stands out (bytesOf (linesOf room bytes)) r later
+  granted-whole schedule good e p = rw (granted-lines room bytes (rw is at good)) (rw (is, e) at (put-stands p))

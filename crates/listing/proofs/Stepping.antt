@@ -27,7 +27,7 @@ use Rattle.rules.specs.Table.{InUse, at, put, nextPair, grown, stolenIn}
 use Rattle.rules.proofs.Changed.{Changes, keeps, stores, splits, changes}
 use Rattle.rules.proofs.Expand.{load-next}
 use Rattle.rules.specs.Opening.{opening, ledgerOf}
-use Rattle.rules.proofs.Opens.{opens-facts, opened-wf, opened-root}
+use Rattle.rules.proofs.Opens.{opened-wf, opened-root}
 use Rattle.rules.proofs.Nodes.{at-out, at-next}
 use Rattle.rules.proofs.Sums.{sumBy-zero}
 use Rattle.rules.proofs.Range.{within-range}
@@ -45,11 +45,8 @@ use Rattle.steps.proofs.Fits.{Fit}
 use Rattle.steps.proofs.Runs.{opened-used}
 use Rattle.steps.proofs.Turns.{step-turn, asks-node}
 use Rattle.places.specs.Clipped.{Ready}
-use Rattle.line_rules.specs.Line.{Line}
-use Rattle.listing_rules.specs.Steps.{runWith, runFrom, startOf, endOf, stepLine, noteOf, notes, lastLine}
-use Rattle.listing_rules.specs.Paper.{Paper, printed, printedAll}
+use Rattle.listing_rules.specs.Steps.{runWith, runFrom, stepLine, noteOf, notes}
 use Rattle.listing.specs.Table.{slotFor, nodeFor, viewBy}
-use Rattle.listing_rules.proofs.Printing.{print-append, print-one}
 use Rattle.listing_rules.proofs.Runs.{Begun, Here, here}
 
 -- ---- what the code sees of the table
@@ -302,13 +299,6 @@ module _ {o : Opening} {cap : ℕ} {u : Run} (b : Begun o cap u) (s : List ℤ) 
       rw (ek, es, seen) (ready l w (natOf number) (recordOf rs number) cap (stand .fits number mine) (omega (arith, h .high, stand .teams-are)) (stand .small)) in
       (et good ∙ rw (ek, es, seen), node)
 
-  pub inked : (p₀ p p′ : Paper) (t : Turned)
-      → t ≡ taken
-      → p ≡ printedAll p₀ (notes (pos cap) u (take i s))
-      → p′ ≡ printedAll p (noteOf number (t .kind) (t .node) (t .answer))
-      → p′ ≡ printedAll p₀ (notes (pos cap) u (take (i + 1) s))
-  inked p₀ p p′ t et ep en = en ∙ rw (et, ep, ← next-notes) (sym (print-append p₀ (notes (pos cap) u (take i s)) _))
-
   pub arms : (slot place stolen : ℕ) (x : Node) (t : Turned)
       → slot ≡ slotOf number
       → place ≡ slotFor (getD rs slot noTeam .node)
@@ -341,7 +331,7 @@ module _ {o : Opening} {cap : ℕ} {u : Run} (b : Begun o cap u) (s : List ℤ) 
           → (k ≡ stolenIn next) × (runWith next (set rs slot (t .team)) ≡ runFrom (pos cap) u (take (i + 1) s))
       by-count k y next is count ek = (rw (ek, ec, ex) count ∙ ap stolenIn (sym is), ap (λ (k : Ledger). runWith k (set rs slot (t .team))) is ∙ stepped)
 
--- ---- before the loop, and after it
+-- ---- before the loop
 
 pub begun-with : (o : Opening) (cap : ℕ) (d : Opened) (rs : List Team)
     → opens o ≡ true
@@ -363,15 +353,3 @@ none-stolen o cap l rs b =
         let z : i + 1 ≡ 1 = omega arith in
         rw (z, opened-root (natOf (o .start)) (natOf (o .until)) (natOf (o .teams)) (natOf (o .nodes))) (fresh-none (natOf (o .start)) (natOf (o .until)))
     go i (no h) = rw (opened-wf o (b .ok) .blank (i + 1) (omega (arith, opened-used o))) blank-none
-
-pub ended : {o : Opening} {cap : ℕ} {u : Run} → Begun o cap u → (s : List ℤ) (i count : ℕ) (l : Ledger) (rs : List Team) (p₀ p p′ : Paper)
-    → i ≡ count
-    → runWith l rs ≡ runFrom (pos cap) u (take i s)
-    → p ≡ printedAll p₀ (notes (pos cap) u (take i s))
-    → p′ ≡ printed p (lastLine (runWith l rs))
-    → p′ ≡ printedAll p₀ (notes (o .cap) (startOf o) (take count s) ++ (lastLine (endOf o (take count s)) ∷ []))
-ended {o} {cap} {u} b s i count l rs p₀ p p′ ei er ep en =
-    let whole : p′ ≡ printedAll p₀ (notes (pos cap) u (take count s) ++ (lastLine (runFrom (pos cap) u (take count s)) ∷ [])) =
-    en ∙ (ap (λ (l : Line). printed p l) (ap lastLine er) ∙ rw (print-append, print-one, ep, ei)) in
-    let c : pos cap ≡ o .cap = rw (b .cap-is) (sym (opens-facts o (b .ok) .cap .is)) in
-    rw (c, b .start-is) at whole

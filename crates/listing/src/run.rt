@@ -1,21 +1,20 @@
 // The run of a schedule, in place: one table of nodes and one of records, stored into.
 ghost use mathlib.Core.Path.{_≡_};
 ghost use mathlib.Core.Bool.{true, cond};
-ghost use mathlib.Core.List.{_++_, _∷_, []};
 ghost use Prim.Native.Nat.{_+_, _-_, _≤_, _<_};
 ghost use lib.ListN.{length, take, replicate};
-ghost use Rattle.numbers.specs.Progress.{signed};
 ghost use Rattle.rules.specs.States.{stolenOf};
 ghost use Rattle.rules.specs.WellFormed.{wellFormed};
 ghost use Rattle.steps.specs.Records.{freshTeam, isStopped};
 ghost use Rattle.steps.specs.Step.{slotOf};
 ghost use Rattle.steps.specs.Run.{stoppedTo};
-ghost use Rattle.listing_rules.specs.Steps.{startOf, runWith, notes, lastLine, endOf};
-ghost use Rattle.listing_rules.specs.Paper.{paper, printed, printedAll};
+ghost use Rattle.line_rules.specs.Line.{text};
+ghost use Rattle.lines.specs.Area.{Put};
+ghost use Rattle.listing_rules.specs.Steps.{runWith, lastLine, runLines};
+ghost use Rattle.listing_rules.specs.Listing.{bytesOf};
+ghost use Rattle.listing_rules.specs.Lent.{roomFor};
 ghost use Rattle.listing.specs.Table.{Runnable, slotFor, nodeFor, viewBy};
-use crate::Entry;
-use crate::paper;
-use listing_rules::Listed;
+use crate::notes;
 use rules::Change;
 use rules::Ledger;
 use rules::Node;
@@ -103,47 +102,27 @@ fn stopped_in(teams: [Team; 32], count: u32) -> u32
     k
 }
 
-fn as_field(n: u64) -> i32
-    ensures { λ r. ⌜ r ≡ signed n ⌝ }
-{
-    if n < 2147483647 { n as i32 } else { 2147483647 }
-}
-
 // The left line, after the last step.
-fn close(out: &mut [u8], done: Listed, book: Ledger, teams: [Team; 32]) -> Listed
-    requires { ⌜ (done .length ≤ length (now out)) × (wellFormed book ≡ true) × (book .teams ≤ 32) ⌝ }
-    ensures { λ r. ⌜ paper (now (out .exit)) r ≡ printed (paper (now (out .entry)) done) (lastLine (runWith book teams)) ⌝ }
+fn last(out: &mut [u8], at: usize, book: Ledger, teams: [Team; 32]) -> usize
+    requires { ⌜ (at + length (text (lastLine (runWith book teams))) ≤ length (now out)) × (wellFormed book ≡ true) × (book .teams ≤ 32) ⌝ }
+    ensures { λ r. ⌜ Put (now (out .entry)) at (text (lastLine (runWith book teams))) r (now (out .exit)) ⌝ }
 {
-    let rest = ledger::count(book);
-    let count = as_field(rest.count);
-    let stopped = numbers::to_signed(stopped_in(teams, book.teams));
-    paper::print(
-        out,
-        done,
-        Entry::Left {
-            count: count,
-            stopped: stopped,
-        },
-    )
+    let unclaimed = ledger::count(book);
+    let stopped = stopped_in(teams, book.teams);
+    lines::add_left(out, at, unclaimed.count, stopped as u64)
 }
 
-// The lines of a run, after the open line: a line for each step that has one, and the left line.
-pub(crate) fn run(
-    schedule: &[i32],
-    count: usize,
-    o: Opening,
-    out: &mut [u8],
-    done: Listed,
-) -> Listed
-    requires { ⌜ Runnable o count (now schedule) × (done .length ≤ length (now out)) ⌝ }
-    ensures { λ r. ⌜ paper (now (out .exit)) r ≡ printedAll (paper (now (out .entry)) done) (notes (o .cap) (startOf o) (take count (now (schedule .entry))) ++ (lastLine (endOf o (take count (now (schedule .entry)))) ∷ [])) ⌝ }
+// The lines of a run: the open line, a line for each step that has one, and the left line. They have room.
+pub(crate) fn run(schedule: &[i32], count: usize, o: Opening, out: &mut [u8]) -> usize
+    requires { ⌜ Runnable o count (now schedule) × (roomFor count ≤ length (now out)) ⌝ }
+    ensures { λ r. ⌜ Put (now (out .entry)) 0 (bytesOf (runLines o (take count (now (schedule .entry))))) r (now (out .exit)) ⌝ }
 {
     let cap = numbers::natural(o.cap);
     let opened = ledger::open(o);
     let mut book = opened.ledger;
     let mut teams = fresh_teams();
     let mut stolen: u32 = 0;
-    let mut printed = done;
+    let mut end = notes::head(out, o);
     let mut i = 0;
     while i < count {
         let number = schedule[i];
@@ -154,8 +133,9 @@ pub(crate) fn run(
         let standing = book.nodes[place];
         let node = node_for(team.node, standing);
         let view = view_by(book.teams, book.room, book.used, stolen, node);
-        let t = teams::turn(numbers::natural(number), cap, team, view);
-        printed = paper::note(out, printed, number, t);
+        let name = numbers::natural(number);
+        let t = teams::turn(name, cap, team, view);
+        end = notes::note(out, end, name, t);
         let moved = t.team;
         teams[slot] = moved;
         let change = t.change;
@@ -181,5 +161,5 @@ pub(crate) fn run(
             }
         }
     }
-    close(out, printed, book, teams)
+    last(out, end, book, teams)
 }

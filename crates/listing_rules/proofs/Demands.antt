@@ -3,12 +3,12 @@ use mathlib.Core.Path.{_≡_, refl, sym, ap, _∙_}
 use mathlib.Core.Logic.{_≢_}
 use mathlib.Core.Bool.{true}
 use mathlib.Core.List.{List, [], _∷_, _++_, append-nil}
-use Prim.Native.Nat.{ℕ, zero, suc, _+_, _*_, _≤_, _<_}
+use Prim.Native.Nat.{ℕ, _+_, _*_, _≤_, _<_}
 use native.Mathlib.Omega.{arith}
-use native.Mathlib.Decide.{ℕ-discrete}
+use native.Mathlib.Decide.{decLe, ℕ-discrete}
 use lib.IntN.{ℤ, pos}
-use lib.ListN.{length, getD, length-map, length-append}
-use borrow.Author.Tests.{ne-eqb}
+use lib.ListN.{length, getD, length-map, length-append, length-drop}
+use borrow.Author.Tests.{le-leb, lt-leb, ne-eqb}
 use Rattle.numbers.specs.Progress.{signed}
 use Rattle.numbers.specs.Fields.{natOf, within}
 use Rattle.rules.specs.declared.Opening.{Opening}
@@ -19,10 +19,7 @@ use Rattle.rules.specs.Opening.{opening, ledgerOf}
 use Rattle.laws.proofs.Once.{given-once-at-most}
 use Rattle.rules.proofs.Opens.{opens-facts}
 use Rattle.laws.proofs.Sheets.{every-sheet-once}
-use Rattle.steps.specs.declared.Team.{Team}
-use Rattle.steps.specs.Records.{isStopped}
-use Rattle.steps.specs.Step.{recordOf}
-use Rattle.steps.specs.Run.{stoppedTo, stoppedTeams}
+use Rattle.steps.specs.Run.{stoppedTeams}
 use Rattle.steps.proofs.Nothing.{nothing-left}
 use Rattle.steps.proofs.Runs.{all-fresh}
 use Rattle.text_rules.specs.declared.Schedule.{Schedule}
@@ -31,39 +28,34 @@ use Rattle.text_rules.specs.Judgement.{scheduleNumbers}
 use Rattle.text_rules.specs.Answers.{scheduleOf}
 use Rattle.text_rules.specs.Demands.{scheduleRoom, WithinLimits}
 use Rattle.text_rules.proofs.Demands.{half-is-enough, granted-within-limits, same-marks, comments-never-matter}
-use Rattle.line_rules.specs.Line.{Line, leftLine, refusedLine, anyNegative, spaced, whole, text}
+use Rattle.line_rules.specs.Line.{Line, leftLine, refusedLine, spaced, whole, text}
+use Rattle.line_rules.specs.Longest.{maxLine}
 use Rattle.line_rules.proofs.Decimal.{decimal-width}
-use Rattle.line_rules.proofs.Demands.{no-line-longer}
 use Rattle.listing_rules.specs.Steps.{headLine, lastLine, notes, startOf, endOf, runLines}
 use Rattle.listing_rules.specs.Listing.{teamsIn, linesBy, linesOf, bytesOf, listingOf}
-use Rattle.listing_rules.specs.Paper.{Paper, listed, paperOf}
+use Rattle.listing_rules.specs.Lent.{roomFor, answerTo, outAfter, scheduleAfter}
 use Rattle.listing_rules.specs.Grants.{claimsIn, asked}
-use Rattle.listing_rules.specs.Demands.{IsGranted, opensWith, askedBy, PlainListing, RefusedInOneLine, CommentsNeverPrinted, PrintsWhatWasGranted, NoSheetPrintedTwice, EverySheetPrintedOnce, AllStoppedNoneLeft, WholeOrRefused, PrintsTheListing, PrintsTheSame}
-use Rattle.listing_rules.proofs.Lines.{Sane, AllSane, none, more, sane-append, plain-bytes, forty-each, all-room, too-long}
+use Rattle.listing_rules.specs.Demands.{IsGranted, opensWith, askedBy, PlainListing, RefusedInOneLine, CommentsNeverPrinted, PrintsWhatWasGranted, NoSheetPrintedTwice, EverySheetPrintedOnce, AllStoppedNoneLeft, StandsIn, WholeOrRefused, RoomIsEnough, PrintsTheListing, PrintsTheSame}
+use Rattle.listing_rules.proofs.Lines.{AllShort, none, more, short-append, plain-bytes, short-bytes}
 use Rattle.listing_rules.proofs.Noted.{RunTells, run-tells, claims-of-run}
 use Rattle.listing_rules.proofs.Teams.{front-teams}
-use Rattle.listing_rules.proofs.Runs.{Here, here, start-fits}
-use Rattle.listing_rules.proofs.Stopped.{one-at-most}
+use Rattle.listing_rules.proofs.Runs.{Begun, Here, here, start-fits}
+use Rattle.listing_rules.proofs.Short.{stopped-most, last-short, begun-short}
 
 -- ---- a text that is granted, and one that is refused
 
 abbrev refusal : ℕ → List ℕ → Line
 refusal room bytes = refusedLine (signed (scheduleOf room bytes .code)) (signed (scheduleOf room bytes .line))
 
-refused-lines : (room : ℕ) (bytes : List ℕ) → scheduleOf room bytes .code ≢ 0 → linesOf room bytes ≡ refusal room bytes ∷ []
+pub refused-lines : (room : ℕ) (bytes : List ℕ) → scheduleOf room bytes .code ≢ 0 → linesOf room bytes ≡ refusal room bytes ∷ []
 unfolding linesOf
 refused-lines room bytes bad = rw (ne-eqb (scheduleOf room bytes .code) 0 bad)
 
-granted-lines : (room : ℕ) (bytes : List ℕ) → IsGranted room bytes → linesOf room bytes ≡ runLines (opensWith room bytes) (teamsIn bytes)
+pub granted-lines : (room : ℕ) (bytes : List ℕ) → IsGranted room bytes → linesOf room bytes ≡ runLines (opensWith room bytes) (teamsIn bytes)
 unfolding linesOf
 granted-lines room bytes good = rw good
 
--- ---- teams that have stopped, and the last of some lines
-
-stopped-few : (rs : List Team) (k : ℕ) → stoppedTo rs k ≤ k
-unfolding stoppedTo
-stopped-few rs zero = omega arith
-stopped-few rs (suc k) = omega (arith, stopped-few rs k, one-at-most (isStopped (recordOf rs (pos (suc k)) .place)))
+-- ---- the last of some lines
 
 lastOf : Line → List Line → Line
 lastOf d [] = d
@@ -113,31 +105,19 @@ module _ (room : ℕ) (bytes : List ℕ) (good : IsGranted room bytes) where
   printed-batches =
       ap claimsIn (granted-lines room bytes good) ∙ claims-of-run o s ∙ tells .told .claims
 
-  -- ---- its lines are within the limits
+  -- ---- its lines are short
 
-  head-sane : Sane (headLine o)
-  unfolding anyNegative
-  head-sane =
-      let f = opens-facts o ok in
-      record {
-        short = no-line-longer (headLine o) (omega (arith, f .start .high, f .until .high), (f .until .high, (f .teams .high, (f .cap .high, (f .nodes .high, tt)))));
-        plain = rw (f .start .is, f .until .is, f .teams .is, f .cap .is, f .nodes .is);
-      }
+  begins : Begun o (natOf (o .cap)) (startOf o)
+  begins = record { ok = ok; cap-is = refl; start-is = refl }
 
   end-here : Here o (natOf (o .cap)) (endOf o s .ledger) (endOf o s .records)
-  end-here =
-      here {u = startOf o} (record { ok = ok; cap-is = refl; start-is = refl }) s (endOf o s .ledger) (endOf o s .records) (rw cap-is)
+  end-here = here begins s (endOf o s .ledger) (endOf o s .records) (rw cap-is)
 
-  few-stopped : stoppedTeams (endOf o s) ≤ 32
-  few-stopped = omega (arith, stopped-few (endOf o s .records) (endOf o s .ledger .teams), end-here .wf .limits .teams-high)
-
-  last-sane : Sane (lastLine (endOf o s))
-  unfolding anyNegative
-  last-sane = let h = few-stopped in record { short = no-line-longer (lastLine (endOf o s)) (omega arith, (omega arith, tt)); plain = refl }
-
-  run-sane : AllSane (linesOf room bytes)
+  run-short : AllShort (linesOf room bytes)
   unfolding runLines
-  run-sane = rw (granted-lines room bytes good) (more head-sane (sane-append (tells .told .sane) (more last-sane none)))
+  run-short =
+      rw (granted-lines room bytes good)
+      (short-append (rw cap-is at (begun-short begins s each-team)) (more (last-short end-here) none))
 
   few-lines : length (linesOf room bytes) ≤ room + 2
   unfolding runLines
@@ -147,25 +127,25 @@ module _ (room : ℕ) (bytes : List ℕ) (good : IsGranted room bytes) where
 
 -- ---- any text
 
-refusal-sane : (room : ℕ) (bytes : List ℕ) → Sane (refusal room bytes)
-unfolding anyNegative whole spaced
-refusal-sane room bytes =
+pub refusal-short : (room : ℕ) (bytes : List ℕ) → length (text (refusal room bytes)) ≤ maxLine
+unfolding whole spaced
+refusal-short room bytes =
     let a = decimal-width 9 (natOf (signed (scheduleOf room bytes .code))) (omega arith) in
     let b = decimal-width 9 (natOf (signed (scheduleOf room bytes .line))) (omega arith) in
-    record { short = simp length-append (omega arith); plain = refl }
+    simp length-append (omega arith)
 
--- the lines are sane, and there are at most two besides those of the steps
+-- the lines are short, and there are at most two besides those of the steps
 record Lined (room : ℕ) (ls : List Line) : Type 0 where
-  sane : AllSane ls
+  short : AllShort ls
   few : length ls ≤ room + 2
 
 lined : (room : ℕ) (bytes : List ℕ) → Lined room (linesOf room bytes)
 lined room bytes = go (ℕ-discrete (scheduleOf room bytes .code) 0)
   where
     go : Dec (scheduleOf room bytes .code ≡ 0) → Lined room (linesOf room bytes)
-    go (yes good) = record { sane = run-sane room bytes good; few = few-lines room bytes good }
+    go (yes good) = record { short = run-short room bytes good; few = few-lines room bytes good }
     go (no bad) =
-        rw (refused-lines room bytes bad) (record { sane = more (refusal-sane room bytes) none; few = omega arith })
+        rw (refused-lines room bytes bad) (record { short = more (refusal-short room bytes) none; few = omega arith })
 
 -- ---- the demands
 
@@ -208,33 +188,57 @@ all-stopped-none-left room bytes before count good e =
     sym (last-is (lastLine u) (headLine o ∷ notes (o .cap) (startOf o) (teamsIn bytes)) (lastLine u))
     ∙ ap (lastOf (lastLine u)) (sym (granted-lines room bytes good) ∙ e)
     ∙ last-is (lastLine u) before (leftLine count (o .teams)) in
-    let stopped : signed (stoppedTeams u) ≡ o .teams = cc in
-    let left : count ≡ signed (unclaimed (u .ledger)) = cc in
-    let all : stoppedTeams u ≡ u .ledger .teams = omega (arith, ap natOf stopped, few-stopped room bytes good, end-here room bytes good .teams-are) in
+    let stopped : pos (stoppedTeams u) ≡ o .teams = cc in
+    let left : count ≡ pos (unclaimed (u .ledger)) = cc in
+    let all : stoppedTeams u ≡ u .ledger .teams = omega (arith, ap natOf stopped, stopped-most (end-here room bytes good), end-here room bytes good .teams-are) in
     let none : unclaimed (u .ledger) ≡ 0 = nothing-left o _ _ (ok room bytes good) (all-fresh maxTeams (natOf (o .teams)) (opens-facts o (ok room bytes good) .teams .high)) all in
     left ∙ rw none
 
+pub room-is-enough : RoomIsEnough
+room-is-enough steps bytes =
+    let l = lined steps bytes in
+    omega (arith, short-bytes (linesOf steps bytes) (l .short), l .few)
+
+-- ---- the areas
+
+module _ (steps : ℕ) (bytes out : List ℕ) where
+  stands : roomFor steps ≤ length out → StandsIn out (bytesOf (linesOf steps bytes)) (answerTo steps bytes (length out)) (outAfter steps bytes out)
+  unfolding answerTo outAfter
+  stands h = let e = le-leb (roomFor steps) (length out) h in record { answer = rw e; bytes = rw e }
+
+  -- what is answered is within the area, which keeps its length
+  pub record Inside : Type 0 where
+    pub within : answerTo steps bytes (length out) .length ≤ length out
+    pub same : length (outAfter steps bytes out) ≡ length out
+
+  pub inside : Inside
+  unfolding answerTo outAfter
+  inside = go (decLe (roomFor steps) (length out))
+    where
+      go : Dec (roomFor steps ≤ length out) → Inside
+      go (yes h) =
+          let e = le-leb (roomFor steps) (length out) h in
+          let f = room-is-enough steps bytes in
+          record {
+            within = rw e (omega arith);
+            same = rw (e, length-append) (omega (arith, length-drop (length (bytesOf (linesOf steps bytes))) out));
+          }
+      go (no h) = let e = lt-leb (roomFor steps) (length out) (omega arith) in record { within = rw e (omega arith); same = rw e }
+
 pub whole-or-refused : WholeOrRefused
-unfolding paperOf listed
-whole-or-refused room bytes area =
-    let sane = lined room bytes .sane in (
-      (λ h. let e = all-room (linesOf room bytes) [] area sane h in record { answer = rw e; bytes = ap (λ (p : Paper). p .area) e }),
-      (λ h. rw (too-long (linesOf room bytes) [] area sane h)),
-    )
+unfolding answerTo outAfter scheduleAfter
+whole-or-refused bytes out schedule = (
+  stands (length schedule) bytes out,
+  (λ h. let e = lt-leb (roomFor (length schedule)) (length out) h in record { answer = rw e; bytes = rw e; numbers = rw e }),
+)
 
 pub prints-the-listing : PrintsTheListing
 unfolding listingOf
-prints-the-listing bytes area enough =
-    let l = lined scheduleRoom bytes in
-    let h = forty-each (linesOf scheduleRoom bytes) (l .sane) in
-    whole-or-refused scheduleRoom bytes area .0 (omega (arith, l .few))
+prints-the-listing bytes out enough = stands scheduleRoom bytes out enough
 
-same-listing : (room : ℕ) (bytes : List ℕ) → room ≤ scheduleRoom → length bytes < 2 * room → bytesOf (linesOf room bytes) ≡ listingOf bytes
+same-listing : (steps : ℕ) (bytes : List ℕ) → steps ≤ scheduleRoom → length bytes < 2 * steps → bytesOf (linesOf steps bytes) ≡ listingOf bytes
 unfolding listingOf linesOf
-same-listing room bytes few short = ap (λ (s : Schedule). bytesOf (linesBy s (teamsIn bytes))) (half-is-enough room bytes few short)
+same-listing steps bytes few short = ap (λ (s : Schedule). bytesOf (linesBy s (teamsIn bytes))) (half-is-enough steps bytes few short)
 
 pub prints-the-same : PrintsTheSame
-prints-the-same room bytes area few short enough =
-    let l = lined room bytes in
-    let h = forty-each (linesOf room bytes) (l .sane) in
-    rw (same-listing room bytes few short) at (whole-or-refused room bytes area .0 (omega (arith, l .few, h, enough)))
+prints-the-same steps bytes out few short enough = rw (same-listing steps bytes few short) at (stands steps bytes out enough)

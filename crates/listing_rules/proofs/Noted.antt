@@ -3,13 +3,12 @@ use mathlib.Core.Path.{_≡_, refl, sym, _∙_}
 use mathlib.Core.Logic.{_≢_}
 use mathlib.Core.Bool.{Bool, true, false, cond, and-false}
 use mathlib.Core.List.{List, [], _∷_, _++_, append-assoc, append-nil}
-use Prim.Native.Nat.{ℕ, suc, _≤_, _<_, min}
+use Prim.Native.Nat.{ℕ, suc, _≤_, _<_}
 use native.Mathlib.Omega.{arith}
 use native.Mathlib.Decide.{ℕ-discrete}
 use lib.IntN.{ℤ, pos}
 use lib.ListN.{length, getD, length-append}
 use borrow.Author.Tests.{ne-eqb}
-use Rattle.numbers.specs.Progress.{signed}
 use Rattle.numbers.specs.Fields.{natOf, within}
 use Rattle.numbers.proofs.Laws.{within-true}
 use Rattle.rules.specs.declared.Ledger.{Ledger}
@@ -18,7 +17,7 @@ use Rattle.rules.specs.declared.Request.{Request}
 use Rattle.rules.specs.declared.Answer.{Answer}
 use Rattle.rules.specs.declared.Answered.{Answered}
 use Rattle.rules.specs.Asks.{ADVANCE, EXPAND}
-use Rattle.rules.specs.Limits.{opens}
+use Rattle.rules.specs.Limits.{opens, maxUntil, maxTeams, maxNodes}
 use Rattle.laws.specs.Listing.{Batch, isClaim, batchOf, batches, afterAll}
 use Rattle.rules.specs.Nodes.{positionOf, middle}
 use Rattle.rules.specs.Requests.{nodeIn, batchEnd, requested, refused}
@@ -38,41 +37,38 @@ use Rattle.steps.specs.Step.{asking, resting, recordOf, lentCode, lentStep, ste
 use Rattle.steps.specs.Turn.{asks, moves}
 use Rattle.steps.specs.Run.{Run, stepTeam, runSteps}
 use Rattle.steps.proofs.Turns.{asks-team}
-use Rattle.line_rules.specs.Line.{Line, batchLine, splitLine, anyNegative}
+use Rattle.line_rules.specs.Line.{Line, batchLine, splitLine}
 use Rattle.line_rules.proofs.Demands.{no-line-longer}
 use Rattle.listing_rules.specs.Steps.{grants, noteOf, stepLine, runWith, runFrom, startOf, notes, runLines}
 use Rattle.listing_rules.specs.Grants.{claimsIn, asksIn, asked}
-use Rattle.listing_rules.proofs.Lines.{AllSane, none, more, sane-append}
+use Rattle.listing_rules.proofs.Lines.{AllShort, none, more, short-append}
 use Rattle.listing_rules.proofs.Runs.{Fits, here-of, step-fits}
 
 -- what the lines of some steps are to the batches that were granted
 pub record Noted (steps : ℕ) (lines : List Line) (granted : List Batch) : Type 0 where
-  pub sane : AllSane lines
+  pub short : AllShort lines
   pub few : length lines ≤ steps
   pub claims : claimsIn lines ≡ granted
 
 nothing-noted : (steps : ℕ) → Noted steps [] []
 unfolding claimsIn
-nothing-noted steps = record { sane = none; few = omega arith; claims = refl }
+nothing-noted steps = record { short = none; few = omega arith; claims = refl }
 
-batch-noted : (t n p e : ℕ) → t ≤ 32 → n ≤ 1023 → p ≤ 2147483647 → e ≤ 2147483647
-    → Noted 1 (batchLine (pos t) (signed n) (signed p) (signed e) ∷ []) (record { team = t; node = n; «from» = p; to = e } ∷ [])
-unfolding claimsIn anyNegative
+batch-noted : (t n p e : ℕ) → t ≤ maxTeams → n ≤ maxNodes → p ≤ maxUntil → e ≤ maxUntil
+    → Noted 1 (batchLine (pos t) (pos n) (pos p) (pos e) ∷ []) (record { team = t; node = n; «from» = p; to = e } ∷ [])
+unfolding claimsIn
 batch-noted t n p e ht hn hp he =
-    let a : min n 2147483647 ≡ n = omega arith in
-    let b : min p 2147483647 ≡ p = omega arith in
-    let c : min e 2147483647 ≡ e = omega arith in
     record {
-      sane = more (record { short = no-line-longer (batchLine (pos t) (signed n) (signed p) (signed e)) (ht, (omega arith, (omega arith, (omega arith, tt)))); plain = refl }) none;
+      short = more (no-line-longer (batchLine (pos t) (pos n) (pos p) (pos e)) (ht, (hn, (hp, (he, tt))))) none;
       few = omega arith;
-      claims = rw (a, b, c);
+      claims = refl;
     }
 
-split-noted : (n left mid : ℕ) → n ≤ 1023 → left ≤ 1023 → Noted 1 (splitLine (signed n) (signed left) (signed mid) ∷ []) []
-unfolding claimsIn anyNegative
-split-noted n left mid hn hl =
+split-noted : (n left mid : ℕ) → n ≤ maxNodes → left ≤ maxNodes → mid ≤ maxUntil → Noted 1 (splitLine (pos n) (pos left) (pos mid) ∷ []) []
+unfolding claimsIn
+split-noted n left mid hn hl hm =
     record {
-      sane = more (record { short = no-line-longer (splitLine (signed n) (signed left) (signed mid)) (omega arith, (omega arith, (omega arith, tt))); plain = refl }) none;
+      short = more (no-line-longer (splitLine (pos n) (pos left) (pos mid)) (hn, (hl, (hm, tt)))) none;
       few = omega arith;
       claims = refl;
     }
@@ -104,7 +100,7 @@ module _ (l : Ledger) (w : WF l) (q : Request) (team : ℤ) (is : natOf team ≡
       (silent team (natOf (q .kind)) n a (not-granted ADVANCE (natOf (q .kind)) a (h .no-claim)) (not-granted EXPAND (natOf (q .kind)) a (h .no-split)), no-batch q a (h .no-claim))
       (nothing-noted 1)
 
-  small : Asked (l .teams) (l .used) q → at l n .until ≤ 2147483647
+  small : Asked (l .teams) (l .used) q → at l n .until ≤ maxUntil
   small a = omega (arith, within-range l w n (in-use l q a) .high, w .limits .until-limit)
 
   noted : {a : Answered} → Effect l q a → Told a
@@ -116,7 +112,7 @@ module _ (l : Ledger) (w : WF l) (q : Request) (team : ℤ) (is : natOf team ≡
       (batch-noted (natOf team) n (positionOf (at l n)) (batchEnd (at l n) q) (omega (arith, a .team .high, w .limits .teams-high)) (omega (arith, a .node .high, used-high l w)) (omega (arith, w .alone n (in-use l q a) .high, small a)) (omega (arith, f .end, small a))))
   noted (splits k a f) =
       unfold noteOf batchOf isClaim in
-      (rw k (split-noted n (nextPair l) (middle (at l n)) (omega (arith, a .node .high, used-high l w)) (omega (arith, pair-room l w n (in-use l q a) f, w .limits .room-high))))
+      (rw k (split-noted n (nextPair l) (middle (at l n)) (omega (arith, a .node .high, used-high l w)) (omega (arith, pair-room l w n (in-use l q a) f, w .limits .room-high)) (unfold middle in (omega (arith, w .alone n (in-use l q a) .high, small a)))))
 
   request-noted : Told (requested l q)
   request-noted = rw (requested-wf l q w) (noted (effect-of l q))
@@ -174,7 +170,7 @@ told-more {l} {mid} {next} {xs} {ys} {rs} {qs} {steps} s t =
       ledger = t .ledger ∙ rw m (sym (after-append l rs qs));
       told =
           record {
-            sane = sane-append (x .sane) (y .sane);
+            short = short-append (x .short) (y .short);
             few = rw length-append (omega (arith, x .few, y .few));
             claims = claims-append xs ys ∙ rw (batches-append l rs qs, ← m, y .claims, x .claims);
           };

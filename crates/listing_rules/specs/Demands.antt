@@ -20,7 +20,7 @@ use Rattle.line_rules.specs.Plain.{isPlain, all}
 use Rattle.listing_rules.specs.declared.Listed.{Listed}
 use Rattle.listing_rules.specs.Steps.{startOf, endOf}
 use Rattle.listing_rules.specs.Listing.{teamsIn, linesOf, bytesOf, listingOf}
-use Rattle.listing_rules.specs.Paper.{answerTo, areaAfter}
+use Rattle.listing_rules.specs.Lent.{roomFor, answerTo, outAfter, scheduleAfter}
 use Rattle.listing_rules.specs.Grants.{claimsIn, asked}
 
 -- ---- what `sheets` prints
@@ -85,40 +85,47 @@ AllStoppedNoneLeft =
     → linesOf room bytes ≡ before ++ (leftLine count (opensWith room bytes .teams) ∷ [])
     → count ≡ pos 0
 
--- ---- the area that is lent
+-- ---- the areas that are lent
 
--- the listing stands at its front, and after it the bytes that stood there
-pub record StandsIn (area : List ℕ) (listing : List ℕ) (r : Listed) (later : List ℕ) : Type 0 where
+-- the listing stands at the front of its area, and after it the bytes that stood there
+pub record StandsIn (out : List ℕ) (listing : List ℕ) (r : Listed) (later : List ℕ) : Type 0 where
   pub answer : r ≡ record { code = 0; length = length listing }
-  pub bytes : later ≡ listing ++ drop (length listing) area
+  pub bytes : later ≡ listing ++ drop (length listing) out
 
--- An area that is long enough has the whole listing; else the answer is 28, "line area shorter than the line".
+-- the answer is 28, and both areas are as they were
+pub record Refuses (out : List ℕ) (schedule : List ℤ) (r : Listed) (outLater : List ℕ) (scheduleLater : List ℤ) : Type 0 where
+  pub answer : r ≡ record { code = 28; length = 0 }
+  pub bytes : outLater ≡ out
+  pub numbers : scheduleLater ≡ schedule
+
+-- An area that is long enough for any text has the whole listing; else the call is refused and changes nothing.
 abbrev pub WholeOrRefused : Type 0
 WholeOrRefused =
-    (room : ℕ) (bytes area : List ℕ)
-    → let listing = bytesOf (linesOf room bytes) in
-    (length listing ≤ length area → StandsIn area listing (answerTo room bytes area) (areaAfter room bytes area))
-    × (length area < length listing → answerTo room bytes area ≡ record { code = 28; length = 0 })
+    (bytes out : List ℕ) (schedule : List ℤ)
+    → let steps = length schedule in
+    let r = answerTo steps bytes (length out) in
+    (roomFor steps ≤ length out → StandsIn out (bytesOf (linesOf steps bytes)) r (outAfter steps bytes out))
+    × (length out < roomFor steps → Refuses out schedule r (outAfter steps bytes out) (scheduleAfter bytes schedule (length out)))
 
--- 40 bytes for each step, for the open line and for the left line
-abbrev pub roomFor : ℕ → ℕ
-roomFor numbers = 40 * (numbers + 2)
+-- No listing is longer than the room that is asked for.
+abbrev pub RoomIsEnough : Type 0
+RoomIsEnough = (steps : ℕ) (bytes : List ℕ) → length (bytesOf (linesOf steps bytes)) ≤ roomFor steps
 
 -- what `sheets` lends
 abbrev pub listingRoom : ℕ
 listingRoom = roomFor scheduleRoom
 
--- It is long enough for every text.
+-- With it every text has its listing printed.
 abbrev pub PrintsTheListing : Type 0
 PrintsTheListing =
-    (bytes area : List ℕ) → listingRoom ≤ length area
-    → StandsIn area (listingOf bytes) (answerTo scheduleRoom bytes area) (areaAfter scheduleRoom bytes area)
+    (bytes out : List ℕ) → listingRoom ≤ length out
+    → StandsIn out (listingOf bytes) (answerTo scheduleRoom bytes (length out)) (outAfter scheduleRoom bytes out)
 
 -- A short text needs less: room for half as many numbers as it has bytes, and one, with an area for so many lines, gives the same listing.
 abbrev pub PrintsTheSame : Type 0
 PrintsTheSame =
-    (room : ℕ) (bytes area : List ℕ) → room ≤ scheduleRoom → length bytes < 2 * room → roomFor room ≤ length area
-    → StandsIn area (listingOf bytes) (answerTo room bytes area) (areaAfter room bytes area)
+    (steps : ℕ) (bytes out : List ℕ) → steps ≤ scheduleRoom → length bytes < 2 * steps → roomFor steps ≤ length out
+    → StandsIn out (listingOf bytes) (answerTo steps bytes (length out)) (outAfter steps bytes out)
 
 -- what `sheets` lends a text of fewer than 4,096 bytes
 abbrev pub shortScheduleRoom : ℕ

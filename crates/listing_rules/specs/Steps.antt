@@ -4,9 +4,8 @@ use Prim.Native.Nat.{ℕ}
 use mathlib.Core.Bool.{Bool, cond, _&&_}
 use mathlib.Core.List.{List, [], _∷_, _++_}
 use lib.Dec.{eqb}
-use lib.IntN.{ℤ}
+use lib.IntN.{ℤ, pos}
 use lib.ListN.{replicate}
-use Rattle.numbers.specs.Progress.{signed}
 use Rattle.rules.specs.declared.Opening.{Opening}
 use Rattle.rules.specs.declared.Answer.{Answer}
 use Rattle.rules.specs.declared.Ledger.{Ledger}
@@ -29,12 +28,11 @@ headLine o = openLine (o .start) (o .until) (o .teams) (o .cap) (o .nodes)
 abbrev pub grants : ℕ → ℕ → Answer → Bool
 grants wanted kind a = eqb kind wanted && eqb (a .code) 0
 
--- The line of a step of a team, by the kind and node of its request and by the answer, or none. The line writer takes signed numbers, and
--- no number of a run is past the largest of them.
+-- the line of a step of a team, by the kind and node of its request and by the answer, or none
 unfoldable pub noteOf : ℤ → ℕ → ℕ → Answer → List Line
 noteOf team kind node a =
-    cond (grants ADVANCE kind a) (batchLine team (signed node) (signed (a .«from»)) (signed (a .to)) ∷ [])
-    (cond (grants EXPAND kind a) (splitLine (signed node) (signed (a .left)) (signed (a .«from»)) ∷ [])
+    cond (grants ADVANCE kind a) (batchLine team (pos node) (pos (a .«from»)) (pos (a .to)) ∷ [])
+    (cond (grants EXPAND kind a) (splitLine (pos node) (pos (a .left)) (pos (a .«from»)) ∷ [])
     [])
 
 abbrev pub stepLine : ℤ → Stepped → List Line
@@ -51,7 +49,7 @@ notes cap u (team ∷ later) =
     stepLine team (lentStep (u .ledger) team cap (u .records)) ++ notes cap (stepTeam cap u team) later
 
 abbrev pub lastLine : Run → Line
-lastLine u = leftLine (signed (unclaimed (u .ledger))) (signed (stoppedTeams u))
+lastLine u = leftLine (pos (unclaimed (u .ledger))) (pos (stoppedTeams u))
 
 abbrev pub runWith : Ledger → List Team → Run
 runWith l rs = record { ledger = l; records = rs }

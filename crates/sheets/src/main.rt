@@ -9,20 +9,25 @@ ghost use Rattle.text_rules.specs.Demands.{scheduleRoom};
 ghost use Rattle.listing_rules.specs.Demands.{listingRoom, shortScheduleRoom, shortListingRoom};
 use libc::STDIN_FILENO;
 use libc::STDOUT_FILENO;
+use line_rules::Written;
 
-// Room for the most schedule numbers, and for the longest listing: 40 bytes a line for each of them, the open line and the left line. These
-// are the rooms of the listing's theorem that no text finds them too short. Only their lengths are known to a caller, which is all that
-// lending them needs.
-fn schedule_area() -> [i32; 32768]
+// Room for the most schedule numbers, and for the longest listing: a line for each of them, the open line and the left line, each as long
+// as the longest. These are the rooms of the listing's theorem that no text finds them too short.
+const NUMBERS: usize = 32768;
+
+const BYTES: usize = Written::LONGEST * (NUMBERS + 2);
+
+// Only the areas' lengths are known to a caller, which is all that lending them needs.
+fn schedule_area() -> [i32; NUMBERS]
     ensures { λ r. ⌜ scheduleRoom ≡ length r ⌝ }
 {
-    [0; 32768]
+    [0; NUMBERS]
 }
 
-fn listing_area() -> [u8; 1310800]
+fn listing_area() -> [u8; BYTES]
     ensures { λ r. ⌜ listingRoom ≡ length r ⌝ }
 {
-    [0; 1310800]
+    [0; BYTES]
 }
 
 // The same for a text of fewer than 4,096 bytes, as most are: by the theorem its listing is the same, and far less is to be cleared.

@@ -16,7 +16,7 @@ returns : tie.Need-returns
 unfolding anyNegative
 returns c =
     let s = c .before .before .before .before in
-    let n = rw (held _ (s .fits .count), held _ (s .fits .stopped)) at (c .before .before .any-negative .ensures) in
+    let n = simp (held _ (s .fits .count), held _ (s .fits .stopped)) at (c .before .before .any-negative .ensures) in
     let a = answers-negative (leftLine (s .args .count) (s .args .stopped)) (s .args .area .now) (rw n at (c .before .if1 .taken)) (c .refuse .ensures) in
     (a .answered, a .left)
 
@@ -39,7 +39,7 @@ returns-2 : tie.Need-returns-2
 unfolding anyNegative whole spaced
 returns-2 c =
     let s = c .before .before .before .before .before .before .before .before .before .before in
-    let n = rw (held _ (s .fits .count), held _ (s .fits .stopped)) at (c .before .before .before .before .before .before .before .before .any-negative .ensures) in
+    let n = simp (held _ (s .fits .count), held _ (s .fits .stopped)) at (c .before .before .before .before .before .before .before .before .any-negative .ensures) in
     let e = rw (c .before .before .before .before .before .wide .ensures, c .before .before .before .before .wide2 .ensures, held _ (s .fits .count), held _ (s .fits .stopped)) at (c .before .before .before .add-left .ensures) in
     let a = answers (leftLine (s .args .count) (s .args .stopped)) (s .args .area .now) (rw n at (c .before .before .before .before .before .before .before .if1 .left)) (e .0) (e .1) (c .ended .ensures) in
     (a .answered, a .left)

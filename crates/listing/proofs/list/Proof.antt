@@ -1,19 +1,19 @@
--- A refused text has one line; the lines of a granted one are those of its run.
+-- Whether there is room is tested first: with room the listing is written, and without it nothing is.
+use mathlib.Core.Path.{sym, _∙_}
 use borrow.Author.Needs.{needs}
-use lib.ListN.{length, take}
-use Rattle.listing_rules.specs.Paper.{paper}
-use Rattle.listing.proofs.Reading.{steps-are, runnable, refused-whole, granted-whole}
+use borrow.Author.Tests.{leb-true}
+use lib.ListN.{length}
+use Rattle.listing_rules.specs.Lent.{roomFor, answerTo, outAfter, scheduleAfter}
 use Rattle.listing.proofs.list.Statement.{statement}
 use Rattle.listing.proofs.list.Tie as tie
 
-read-schedule-requires : tie.Need-read-schedule-requires
-read-schedule-requires c κs = search needs
+has-room-requires : tie.Need-has-room-requires
+has-room-requires c κs = search needs
 
-refusal-requires : tie.Need-refusal-requires
-refusal-requires c κs = search needs
-
-settled-requires : tie.Need-settled-requires
-settled-requires c κs = search needs
+write-requires : tie.Need-write-requires
+write-requires c κs =
+    let s = c .before .before .before .before .before .before in
+    leb-true (roomFor (length (s .args .schedule .now))) (length (s .args .out .now)) (sym (c .before .before .before .has-room .ensures) ∙ c .before .before .if1 .taken)
 
 same-length : tie.Need-same-length
 same-length c = search needs
@@ -22,57 +22,19 @@ same-length-2 : tie.Need-same-length-2
 same-length-2 c = search needs
 
 returns : tie.Need-returns
+unfolding answerTo outAfter scheduleAfter
 returns c =
-    let a = c .before .before .before .before .before .before .before .before .before .before .before .before .args in
-    let s = c .before .before .before .before .before .before .before .before .read-schedule in
-    let w =
-    refused-whole (length (a .schedule .now)) (a .text .now) (a .out .now) _ (s .result) (c .before .before .before .refusal .result) (c .settled .result) (s .ensures .0) (c .settled .ensures)
-    (c .before .before .before .before .before .if1 .taken) (c .before .before .before .refusal .ensures .0) in
-    (w .0, (w .1, s .ensures .1))
-
-open-requires : tie.Need-open-requires
-open-requires c κs = search needs
-
-run-requires : tie.Need-run-requires
-run-requires c κs =
-    let a = c .before .before .before .before .before .before .before .before .before .before .before .before .before .before .args in
-    let s = c .before .before .before .before .before .before .before .before .before .before .read-schedule in
-    (runnable (a .text .now) (a .schedule .now) (s .last .1 .0) (s .result) (s .ensures .0) (s .ensures .1) (c .before .before .before .before .before .before .before .if1 .left), c .before .before .before .before .«open» .ensures .1)
-
-settled-requires-2 : tie.Need-settled-requires-2
-settled-requires-2 c κs = search needs
-
-same-length-3 : tie.Need-same-length-3
-same-length-3 c = search needs
-
-same-length-4 : tie.Need-same-length-4
-same-length-4 c = search needs
+    let e = sym (c .before .before .before .before .before .before .before .has-room .ensures) ∙ c .before .before .before .before .before .before .if1 .taken in
+    let w = c .before .before .before .write .ensures in
+    (rw (e, w .0), (rw e (w .1 .0), rw e (w .1 .1)))
 
 returns-2 : tie.Need-returns-2
+unfolding answerTo outAfter scheduleAfter
 returns-2 c =
-    let a = c .before .before .before .before .before .before .before .before .before .before .before .before .before .before .before .before .before .before .args in
-    let s = c .before .before .before .before .before .before .before .before .before .before .before .before .before .before .read-schedule in
-    let good = c .before .before .before .before .before .before .before .before .before .before .before .if1 .left in
-    let o = c .before .before .before .before .before .before .before .before .«open» in
-    let w =
-    granted-whole (length (a .schedule .now)) (a .text .now) (a .out .now) _ (s .result) (c .before .before .before .run .result) (c .settled2 .result) (s .ensures .0) (c .settled2 .ensures)
-    (paper (o .last .0) (o .result)) (take (s .result .count) (s .last .1 .0)) good (o .ensures .0)
-    (steps-are (a .text .now) (a .schedule .now) (s .last .1 .0) (s .result) (s .ensures .0) (s .ensures .1) good) (c .before .before .before .run .ensures) in
-    (w .0, (w .1, s .ensures .1))
+    let e = sym (c .before .has-room .ensures) ∙ c .if1 .left in
+    (rw e, (rw e, rw e))
 
 pub list-spec : {M : Type 1} → statement M
 list-spec =
     tie.close
-    (tie.spec
-    read-schedule-requires
-    refusal-requires
-    settled-requires
-    same-length
-    same-length-2
-    returns
-    open-requires
-    run-requires
-    settled-requires-2
-    same-length-3
-    same-length-4
-    returns-2)
+    (tie.spec has-room-requires write-requires same-length same-length-2 returns returns-2)

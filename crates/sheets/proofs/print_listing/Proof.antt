@@ -6,16 +6,16 @@ use native.Mathlib.Omega.{arith}
 use lib.ListN.{length}
 use lib.Seq.{length-take-le}
 use Rattle.listing_rules.specs.declared.Listed.{Listed}
-use Rattle.listing_rules.specs.Paper.{answerTo, areaAfter}
-use Rattle.listing_rules.proofs.Printing.{answer-inside, area-kept}
+use Rattle.listing_rules.specs.Lent.{answerTo, outAfter}
+use Rattle.listing_rules.proofs.Demands.{inside}
 use borrow.Author.Needs.{needs}
 use Rattle.sheets.proofs.print_listing.Statement.{statement}
 use Rattle.sheets.proofs.print_listing.Tie as tie
 
 -- the length that is answered is one of the area as it then is
-fits : (l : Listed) (room : ℕ) (bytes area later : List ℕ) → l ≡ answerTo room bytes area → later ≡ areaAfter room bytes area
+fits : (l : Listed) (steps : ℕ) (bytes out later : List ℕ) → l ≡ answerTo steps bytes (length out) → later ≡ outAfter steps bytes out
     → l .length ≤ length later
-fits l room bytes area later e f = rw (e, f) (omega (arith, answer-inside room bytes area, area-kept room bytes area))
+fits l steps bytes out later e f = let i = inside steps bytes out in rw (e, f) (omega (arith, i .within, i .same))
 
 list-requires : tie.Need-list-requires
 list-requires c κs = search needs

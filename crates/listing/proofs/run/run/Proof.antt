@@ -1,4 +1,4 @@
--- The loop holds a ledger and records that are those of the run so far, and has printed its lines so far. The places of a step are counted once, below.
+-- The loop holds a ledger and records that are those of the run so far, and has written its lines so far. The places of a step are counted once, below.
 use borrow.Author.Needs.{needs}
 use native.Mathlib.Omega.{arith}
 use mathlib.Core.Path.{_≡_, refl, _∙_}
@@ -16,24 +16,27 @@ use Rattle.rules.specs.Table.{stolenIn, at as nodeAt}
 use Rattle.steps.specs.Step.{slotOf, recordOf}
 use Rattle.rules.proofs.Record.{rules-back}
 use Rattle.steps.specs.Run.{Run, runSteps}
-use Rattle.listing_rules.specs.Steps.{runWith, runFrom, notes}
-use Rattle.listing_rules.specs.Paper.{paper, printedAll}
+use Rattle.listing_rules.specs.Steps.{runWith, runFrom, noteOf, headLine, notes}
+use Rattle.line_rules.specs.Line.{text}
+use Rattle.lines.specs.Area.{Put}
+use Rattle.lines.proofs.Area.{put-nothing}
+use Rattle.listing_rules.specs.Listing.{bytesOf}
 use Rattle.listing_rules.proofs.Runs.{Begun, Here, here}
-use Rattle.listing.proofs.Stepping.{begun-with, none-stolen, ended, seat-inside, taken, taken-is, inked, Arms, arms}
+use Rattle.listing.proofs.Stepping.{begun-with, none-stolen, seat-inside, taken, taken-is, Arms, arms}
+use Rattle.listing.proofs.Writing.{head-room, note-room, note-put, last-room, last-put}
 use Rattle.listing.proofs.run.run.Statement.{statement}
 use Rattle.listing.proofs.run.run.Tie as tie
 
 abbrev Inv-loop : tie.InvT-loop
-Inv-loop schedule count out₀ cap book₀ teams₀ stolen₀ printed₀ i₀ out book teams stolen printed i =
+Inv-loop schedule count out₀ cap book₀ teams₀ stolen₀ end₀ i₀ out book teams stolen end i =
     (i ≤ count)
     × (length out ≡ length out₀)
-    × (printed .length ≤ length out)
     × (stolen ≡ stolenIn book)
     × (runWith book teams ≡ runFrom (pos cap) (runWith book₀ teams₀) (take i schedule))
-    × (paper out printed ≡ printedAll (paper out₀ printed₀) (notes (pos cap) (runWith book₀ teams₀) (take i schedule)))
+    × Put out₀ end₀ (bytesOf (notes (pos cap) (runWith book₀ teams₀) (take i schedule))) end out
 
 abbrev μ-loop : tie.MeasureT-loop
-μ-loop schedule count out₀ cap book₀ teams₀ stolen₀ printed₀ i₀ out book teams stolen printed i = count - i
+μ-loop schedule count out₀ cap book₀ teams₀ stolen₀ end₀ i₀ out book teams stolen end i = count - i
 
 -- ---- before the loop
 
@@ -61,10 +64,25 @@ begins c =
     (c .before .before .«open» .ensures)
     (c .fresh-teams .ensures)
 
+-- the open line is written
+abbrev Headed-here : Type 0
+Headed-here = tie.After-slice-known2 Inv-loop μ-loop
+
+abbrev ready : Headed-here → Ready-here
+ready c = c .before .before .before .before
+
+headed : (c : Headed-here)
+    → let s = started (ready c) in
+    Put (s .args .out .now) 0 (text (headLine (s .args .o))) (c .before .before .head .result) (c .before .before .head .last .0)
+headed c = c .before .before .head .ensures
+
 -- ---- in the loop
 
-stands : (c : tie.At-loop Inv-loop μ-loop) → Here (started (c .before) .args .o) (capped (c .before)) (c .loop .book) (c .loop .teams)
-stands c = here (begins (c .before)) (take (c .loop .i) (started (c .before) .args .schedule .now)) (c .loop .book) (c .loop .teams) (c .loop .inv .4)
+abbrev begun : (c : tie.At-loop Inv-loop μ-loop) → Begun (started (ready (c .before)) .args .o) (capped (ready (c .before))) (first (ready (c .before)))
+begun c = begins (ready (c .before))
+
+stands : (c : tie.At-loop Inv-loop μ-loop) → Here (started (ready (c .before)) .args .o) (capped (ready (c .before))) (c .loop .book) (c .loop .teams)
+stands c = here (begun c) (take (c .loop .i) (started (ready (c .before)) .args .schedule .now)) (c .loop .book) (c .loop .teams) (c .loop .inv .3)
 
 -- the number that is read: it is inside the schedule, and a team's
 abbrev Read-here : Type 0
@@ -74,19 +92,19 @@ abbrev looped : Read-here → tie.At-loop Inv-loop μ-loop
 looped c = c .before .before
 
 abbrev schedule : Read-here → List ℤ
-schedule c = started (looped c .before) .args .schedule .now
+schedule c = started (ready (looped c .before)) .args .schedule .now
 
 abbrev number : Read-here → ℤ
 number c = getD (schedule c) (looped c .loop .i) (pos 0)
 
-more : (c : Read-here) → looped c .loop .i < started (looped c .before) .args .count
+more : (c : Read-here) → looped c .loop .i < started (ready (looped c .before)) .args .count
 more c = c .before .loop-test .taken
 
 less : (c : Read-here) → looped c .loop .i < length (schedule c)
-less c = omega (arith, more c, started (looped c .before) .pre .0 .inside)
+less c = omega (arith, more c, started (ready (looped c .before)) .pre .0 .inside)
 
-mine : (c : Read-here) → within (number c) 1 (natOf (started (looped c .before) .args .o .teams)) ≡ true
-mine c = started (looped c .before) .pre .0 .teams (looped c .loop .i) (more c)
+mine : (c : Read-here) → within (number c) 1 (natOf (started (ready (looped c .before)) .args .o .teams)) ≡ true
+mine c = started (ready (looped c .before)) .pre .0 .teams (looped c .loop .i) (more c)
 
 back : (c : Read-here) → toZ w32 (ofZ w32 (number c)) ≡ number c
 back c = held _ (record { sfits = c .number .given })
@@ -101,87 +119,107 @@ slot-is c = rw (back (c .before)) at (c .team-slot .ensures)
 seat : (c : Seated-here) → c .team-slot .result < 32
 seat c =
     let n = c .before in
-    rw (slot-is c) (seat-inside (begins (looped n .before)) (schedule n) (looped n .loop .i) (less n) (looped n .loop .book) (looped n .loop .teams) (looped n .loop .inv .4) (mine n))
+    rw (slot-is c) (seat-inside (begun (looped n)) (schedule n) (looped n .loop .i) (less n) (looped n .loop .book) (looped n .loop .teams) (looped n .loop .inv .3) (mine n))
 
--- the turn was taken, its line printed and the team's record stored
+-- the turn was taken
+abbrev Turned-here : Type 0
+Turned-here = tie.After-turn Inv-loop μ-loop
+
+abbrev viewed : Turned-here → tie.After-view-by Inv-loop μ-loop
+viewed c = c .before .before
+
+abbrev placed : Turned-here → tie.After-node-slot Inv-loop μ-loop
+placed c = viewed c .before .before .before
+
+abbrev seated : Turned-here → Seated-here
+seated c = placed c .before .before
+
+abbrev read : Turned-here → Read-here
+read c = seated c .before
+
+abbrev at : Turned-here → tie.At-loop Inv-loop μ-loop
+at c = looped (read c)
+
+abbrev node : Turned-here → Node
+node c = viewed c .before .node-for .result
+
+abbrev name : Turned-here → ℕ
+name c = c .before .natural2 .result
+
+named : (c : Turned-here) → name c ≡ natOf (number (read c))
+named c = rw (back (read c)) at (c .before .natural2 .ensures)
+
+place-inside : (c : Turned-here) → placed c .node-slot .result < 1023
+place-inside c = omega (arith, placed c .node-slot .ensures)
+
+few : (c : Turned-here) → at c .loop .stolen ≤ 1023
+few c = let w = stands (at c) .wf in omega (arith, at c .loop .inv .2, w .loaded, w .limits .room-high)
+
+turns : (c : Turned-here)
+    → (c .turn .result ≡ taken (begun (at c)) (schedule (read c)) (at c .loop .i) (less (read c)) (at c .loop .book) (at c .loop .teams) (at c .loop .inv .3) (mine (read c)))
+    × (node c ≡ nodeAt (at c .loop .book) (recordOf (at c .loop .teams) (number (read c)) .node))
+turns c =
+    let n = read c in
+    let l = at c .loop in
+    taken-is (begun (at c)) (schedule n) (l .i) (less n) (l .book) (l .teams) (l .inv .3) (mine n)
+    (seated c .team-slot .result) (placed c .node-slot .result) (l .stolen) (name c) (node c) (viewed c .view-by .result) (c .turn .result)
+    (slot-is (seated c))
+    (placed c .node-slot .ensures)
+    (l .inv .2)
+    (viewed c .before .node-for .ensures)
+    (viewed c .view-by .ensures)
+    (named c)
+    (c .turn .ensures)
+
+-- what the arms of the match store
+stores : (c : Turned-here)
+    → let l = at c .loop in
+    Arms (capped (ready (at c .before))) (first (ready (at c .before))) (take (l .i + 1) (schedule (read c))) (l .book) (l .teams) (seated c .team-slot .result)
+    (placed c .node-slot .result) (l .stolen) (node c) (c .turn .result)
+stores c =
+    let n = read c in
+    let l = at c .loop in
+    arms (begun (at c)) (schedule n) (l .i) (less n) (l .book) (l .teams) (l .inv .3) (mine n) (seated c .team-slot .result)
+    (placed c .node-slot .result) (l .stolen) (node c) (c .turn .result) (slot-is (seated c)) (placed c .node-slot .ensures) (l .inv .2) (turns c .1) (turns c .0)
+
+-- the line of the step has room
+writes-room : (c : Turned-here)
+    → let t = c .turn .result in
+    at c .loop .end + length (bytesOf (noteOf (pos (name c)) (t .kind) (t .node) (t .answer))) ≤ length (at c .loop .out)
+writes-room c =
+    let n = read c in
+    let l = at c .loop in
+    let s = started (ready (at c .before)) in
+    note-room (begun (at c)) (schedule n) (s .args .count) (s .pre .0 .inside) (s .pre .0 .teams) (s .args .out .now) (s .pre .1) (headed (at c .before))
+    (l .i) (more n) (l .book) (l .teams) (l .inv .3) (name c) (c .turn .result) (named c) (turns c .0) (l .inv .4)
+
+-- its line is written and the team's record stored
 abbrev Moved-here : Type 0
 Moved-here = tie.After-moved Inv-loop μ-loop
 
 abbrev noted : Moved-here → tie.After-note Inv-loop μ-loop
 noted c = c .before .before .before
 
-abbrev called : Moved-here → tie.After-turn Inv-loop μ-loop
+abbrev called : Moved-here → Turned-here
 called c = noted c .before .before
 
-abbrev viewed : Moved-here → tie.After-view-by Inv-loop μ-loop
-viewed c = called c .before .before
-
-abbrev placed : Moved-here → tie.After-node-slot Inv-loop μ-loop
-placed c = viewed c .before .before .before
-
-abbrev seated : Moved-here → Seated-here
-seated c = placed c .before .before
-
-abbrev read : Moved-here → Read-here
-read c = seated c .before
-
-abbrev at : Moved-here → tie.At-loop Inv-loop μ-loop
-at c = looped (read c)
-
-abbrev node : Moved-here → Node
-node c = viewed c .before .node-for .result
-
-place-inside : (c : Moved-here) → placed c .node-slot .result < 1023
-place-inside c = omega (arith, placed c .node-slot .ensures)
-
-few : (c : Moved-here) → at c .loop .stolen ≤ 1023
-few c = let w = stands (at c) .wf in omega (arith, at c .loop .inv .3, w .loaded, w .limits .room-high)
-
-turns : (c : Moved-here)
-    → (called c .turn .result ≡ taken (begins (at c .before)) (schedule (read c)) (at c .loop .i) (less (read c)) (at c .loop .book) (at c .loop .teams) (at c .loop .inv .4) (mine (read c)))
-    × (node c ≡ nodeAt (at c .loop .book) (recordOf (at c .loop .teams) (number (read c)) .node))
-turns c =
+-- what is written after any arm
+writes : (m : Moved-here)
+    → let c = called m in
+    let h = at c .before .before .before .head in
+    (at c .loop .i + 1 ≤ started (ready (at c .before)) .args .count)
+    × (length (noted m .note .last .0) ≡ length (h .last .0))
+    × Put (h .last .0) (h .result) (bytesOf (notes (pos (capped (ready (at c .before)))) (first (ready (at c .before))) (take (at c .loop .i + 1) (schedule (read c)))))
+    (noted m .note .result) (noted m .note .last .0)
+writes m =
+    let c = called m in
     let n = read c in
     let l = at c .loop in
-    taken-is (begins (at c .before)) (schedule n) (l .i) (less n) (l .book) (l .teams) (l .inv .4) (mine n)
-    (seated c .team-slot .result) (placed c .node-slot .result) (l .stolen) (called c .before .natural2 .result) (node c) (viewed c .view-by .result) (called c .turn .result)
-    (slot-is (seated c))
-    (placed c .node-slot .ensures)
-    (l .inv .3)
-    (viewed c .before .node-for .ensures)
-    (viewed c .view-by .ensures)
-    (rw (back n) at (called c .before .natural2 .ensures))
-    (called c .turn .ensures)
-
--- what the arms of the match store
-stores : (c : Moved-here)
-    → let l = at c .loop in
-    Arms (capped (at c .before)) (first (at c .before)) (take (l .i + 1) (schedule (read c))) (l .book) (l .teams) (seated c .team-slot .result)
-    (placed c .node-slot .result) (l .stolen) (node c) (called c .turn .result)
-stores c =
-    let n = read c in
-    let l = at c .loop in
-    arms (begins (at c .before)) (schedule n) (l .i) (less n) (l .book) (l .teams) (l .inv .4) (mine n) (seated c .team-slot .result)
-    (placed c .node-slot .result) (l .stolen) (node c) (called c .turn .result) (slot-is (seated c)) (placed c .node-slot .ensures) (l .inv .3) (turns c .1) (turns c .0)
-
--- what is printed after any arm
-prints : (c : Moved-here)
-    → let s = started (at c .before) in
-    let l = at c .loop in
-    (l .i + 1 ≤ s .args .count)
-    × (length (noted c .note .last .0) ≡ length (s .args .out .now))
-    × (noted c .note .result .length ≤ length (noted c .note .last .0))
-    × (paper (noted c .note .last .0) (noted c .note .result)
-    ≡ printedAll (paper (s .args .out .now) (s .args .done)) (notes (pos (capped (at c .before))) (first (at c .before)) (take (l .i + 1) (schedule (read c)))))
-prints c =
-    let n = read c in
-    let l = at c .loop in
-    let s = started (at c .before) in (
+    let s = started (ready (at c .before)) in (
       omega (arith, more n),
-      noted c .note .kept .0 ∙ l .inv .1,
-      noted c .note .ensures .1,
-      inked (begins (at c .before)) (schedule n) (l .i) (less n) (l .book) (l .teams) (l .inv .4) (mine n) (paper (s .args .out .now) (s .args .done)) (paper (l .out) (l .printed)) _
-          (called c .turn .result) (turns c .0) (l .inv .5) (rw (back n) at (noted c .note .ensures .0)),
+      noted m .note .kept .0 ∙ l .inv .1,
+      note-put (begun (at c)) (schedule n) (s .args .count) (s .pre .0 .inside) (s .pre .0 .teams) (s .args .out .now) (s .pre .1) (headed (at c .before))
+          (l .i) (more n) (l .book) (l .teams) (l .inv .3) (name c) (c .turn .result) (named c) (turns c .0) (l .inv .4) (noted m .note .ensures),
     )
 
 -- the pair of a split
@@ -192,7 +230,7 @@ abbrev from-split : Split-here → Moved-here
 from-split c = c .before .before .before .before
 
 pair-of : (c : Split-here) → let f = c .before .before .change2 .given .0 .1 .0 in (1 ≤ f) × (f + 1 ≤ 1023)
-pair-of c = stores (from-split c) .pair _ _ _ _ (c .before .before .change2 .given .1)
+pair-of c = stores (called (from-split c)) .pair _ _ _ _ (c .before .before .change2 .given .1)
 
 natural-requires : tie.Need-natural-requires Inv-loop μ-loop
 natural-requires c κs = search needs
@@ -203,9 +241,17 @@ open-requires c κs = search needs
 fresh-teams-requires : tie.Need-fresh-teams-requires Inv-loop μ-loop
 fresh-teams-requires c κs = search needs
 
+head-requires : tie.Need-head-requires Inv-loop μ-loop
+head-requires c κs =
+    let r = c .before in
+    let s = started r in
+    head-room (begins r) (s .args .schedule .now) (s .args .count) (s .pre .0 .inside) (s .pre .0 .teams) (s .args .out .now) (s .pre .1)
+
 loop-holds : tie.Need-loop-holds Inv-loop μ-loop
-unfolding runSteps notes printedAll
-loop-holds c = (omega arith, refl, started c .pre .1, none-stolen (started c .args .o) (capped c) (c .before .before .«open» .result .ledger) (c .fresh-teams .result) (begins c), refl, refl)
+unfolding runSteps notes bytesOf
+loop-holds c =
+    let r = ready c in
+    (omega arith, refl, none-stolen (started r .args .o) (capped r) (r .before .before .«open» .result .ledger) (r .fresh-teams .result) (begins r), refl, put-nothing _ _)
 
 mul-number : tie.Need-mul-number Inv-loop μ-loop
 mul-number c = search needs
@@ -247,28 +293,28 @@ turn-requires : tie.Need-turn-requires Inv-loop μ-loop
 turn-requires c κs = search needs
 
 note-requires : tie.Need-note-requires Inv-loop μ-loop
-note-requires c κs = c .before .before .before .before .before .before .before .before .before .before .before .loop .inv .2
+note-requires c κs = writes-room (c .before)
 
 mul-teams : tie.Need-mul-teams Inv-loop μ-loop
-mul-teams c = let h = seat (seated c) in search needs
+mul-teams c = let h = seat (seated (called c)) in search needs
 
 array-set-from-teams : tie.Need-array-set-from-teams Inv-loop μ-loop
-array-set-from-teams c = seat (seated c)
+array-set-from-teams c = seat (seated (called c))
 
 enum-told : tie.Need-enum-told Inv-loop μ-loop
 enum-told c = search needs
 
 loop-less : tie.Need-loop-less Inv-loop μ-loop
-loop-less c = omega (arith, more (read (c .before .before)))
+loop-less c = omega (arith, more (read (called (c .before .before))))
 
 loop-again : tie.Need-loop-again Inv-loop μ-loop
-loop-again c = let m = c .before .before in let p = prints m in (p .0, p .1, p .2, at m .loop .inv .3, stores m .keep (c .enum-told .given .1), p .3)
+loop-again c = let m = c .before .before in let p = writes m in (p .0, p .1, at (called m) .loop .inv .2, stores (called m) .keep (c .enum-told .given .1), p .2)
 
 enum-known-change : tie.Need-enum-known-change Inv-loop μ-loop
 enum-known-change c = search needs
 
 recount-requires : tie.Need-recount-requires Inv-loop μ-loop
-recount-requires c κs = few (c .before .before .before)
+recount-requires c κs = few (called (c .before .before .before))
 
 mul-x : tie.Need-mul-x Inv-loop μ-loop
 mul-x c = search needs
@@ -277,22 +323,22 @@ element-set-from-x : tie.Need-element-set-from-x Inv-loop μ-loop
 element-set-from-x c = search needs
 
 loop-less-2 : tie.Need-loop-less-2 Inv-loop μ-loop
-loop-less-2 c = omega (arith, more (read (c .before .before .before .before)))
+loop-less-2 c = omega (arith, more (read (called (c .before .before .before .before))))
 
 loop-again-2 : tie.Need-loop-again-2 Inv-loop μ-loop
-loop-again-2 c = let m = c .before .before .before .before in let p = prints m in let f = stores m .store _ _ (c .before .before .change .given .1) (c .recount .ensures) in (p .0, p .1, p .2, f .0, f .1, p .3)
+loop-again-2 c = let m = c .before .before .before .before in let p = writes m in let f = stores (called m) .store _ _ (c .before .before .change .given .1) (c .recount .ensures) in (p .0, p .1, f .0, f .1, p .2)
 
 enum-known-change-2 : tie.Need-enum-known-change-2 Inv-loop μ-loop
 enum-known-change-2 c = search needs
 
 recount-requires-2 : tie.Need-recount-requires-2 Inv-loop μ-loop
-recount-requires-2 c κs = few (c .before .before .before)
+recount-requires-2 c κs = few (called (c .before .before .before))
 
 mul-parent : tie.Need-mul-parent Inv-loop μ-loop
-mul-parent c = let h = place-inside (from-split c) in search needs
+mul-parent c = let h = place-inside (called (from-split c)) in search needs
 
 element-set-from-parent : tie.Need-element-set-from-parent Inv-loop μ-loop
-element-set-from-parent c = place-inside (from-split c)
+element-set-from-parent c = place-inside (called (from-split c))
 
 sub-a : tie.Need-sub-a Inv-loop μ-loop
 sub-a c = let h = pair-of c in omega (arith, h .0)
@@ -319,19 +365,42 @@ add-book : tie.Need-add-book Inv-loop μ-loop
 add-book c = let h = pair-of c in omega (arith, h .0, h .1)
 
 loop-less-3 : tie.Need-loop-less-3 Inv-loop μ-loop
-loop-less-3 c = omega (arith, more (read (from-split c)))
+loop-less-3 c = omega (arith, more (read (called (from-split c))))
 
 loop-again-3 : tie.Need-loop-again-3 Inv-loop μ-loop
-loop-again-3 c = let m = from-split c in let p = prints m in let f = stores m .split _ _ _ _ _ (c .before .before .change2 .given .1) (c .recount2 .ensures) in (p .0, p .1, p .2, f .0, f .1, p .3)
+loop-again-3 c = let m = from-split c in let p = writes m in let f = stores (called m) .split _ _ _ _ _ (c .before .before .change2 .given .1) (c .recount2 .ensures) in (p .0, p .1, f .0, f .1, p .2)
 
-close-requires : tie.Need-close-requires Inv-loop μ-loop
-close-requires c κs = let a = c .before .before in let h = stands a in let w = h .wf in (a .loop .inv .2, rules-back (a .loop .book) w, w .limits .teams-high)
+-- after the last step
+finished : (a : tie.At-loop Inv-loop μ-loop) → a .loop .i ≡ started (ready (a .before)) .args .count
+    → let s = started (ready (a .before)) in
+    let h = a .before .before .before .head in
+    let u = first (ready (a .before)) in
+    let k = pos (capped (ready (a .before))) in
+    (runWith (a .loop .book) (a .loop .teams) ≡ runFrom k u (take (s .args .count) (s .args .schedule .now)))
+    × Put (h .last .0) (h .result) (bytesOf (notes k u (take (s .args .count) (s .args .schedule .now)))) (a .loop .end) (a .loop .out)
+finished a e = (rw e at (a .loop .inv .3), rw e at (a .loop .inv .4))
+
+last-requires : tie.Need-last-requires Inv-loop μ-loop
+last-requires c κs =
+    let a = c .before .before in
+    let s = started (ready (a .before)) in
+    let f = finished a (omega (arith, a .loop .inv .0, c .before .loop-test .left)) in
+    let w = stands a .wf in (
+      last-room (begun a) (s .args .schedule .now) (s .args .count) (s .pre .0 .inside) (s .pre .0 .teams) (s .args .out .now) (s .pre .1) (headed (a .before)) (a .loop .book) (a .loop .teams) (f .0) (f .1),
+      rules-back (a .loop .book) w,
+      w .limits .teams-high,
+    )
 
 same-length : tie.Need-same-length Inv-loop μ-loop
 same-length c = search needs
 
 returns : tie.Need-returns Inv-loop μ-loop
-returns c = let a = c .before .before .before .before .before in let s = started (a .before) in ended (begins (a .before)) (s .args .schedule .now) (a .loop .i) (s .args .count) (a .loop .book) (a .loop .teams) (paper (s .args .out .now) (s .args .done)) (paper (a .loop .out) (a .loop .printed)) _ (omega (arith, a .loop .inv .0, c .before .before .before .before .loop-test .left)) (a .loop .inv .4) (a .loop .inv .5) (c .before .before .close .ensures)
+returns c =
+    let a = c .before .before .before .before .before in
+    let s = started (ready (a .before)) in
+    let f = finished a (omega (arith, a .loop .inv .0, c .before .before .before .before .loop-test .left)) in
+    last-put (begun a) (s .args .schedule .now) (s .args .count) (s .pre .0 .inside) (s .pre .0 .teams) (s .args .out .now) (s .pre .1) (headed (a .before)) (a .loop .book) (a .loop .teams) (f .0) (f .1)
+    (c .before .before .last .ensures)
 
 pub run-spec : {M : Type 1} → statement M
 run-spec =
@@ -342,6 +411,7 @@ run-spec =
     natural-requires
     open-requires
     fresh-teams-requires
+    head-requires
     loop-holds
     mul-number
     shared-slice-copy-out-number
@@ -382,6 +452,6 @@ run-spec =
     add-book
     loop-less-3
     loop-again-3
-    close-requires
+    last-requires
     same-length
     returns)
