@@ -94,14 +94,14 @@ pub(crate) fn ask(
 // A lesson whose teams follow the team program, each by its record.
 pub(crate) struct Run {
     lesson: Lesson,
-    records: [Team; 32],
+    records: [Team; Team::RECORDS],
 }
 
 pub(crate) fn with_teams(s: Lesson) -> Run {
     let t = Team::fresh();
     Run {
         lesson: s,
-        records: [t; 32],
+        records: [t; Team::RECORDS],
     }
 }
 

@@ -14,7 +14,7 @@ pub struct Apart {
 // What a step answers, and all records after it.
 pub struct Table {
     pub round: Round,
-    pub records: [Team; 32],
+    pub records: [Team; Team::RECORDS],
 }
 
 // Where a team's record stands among n lent ones: nowhere, which is n, if the team is none or the records are too few.
@@ -86,7 +86,7 @@ pub fn step_lent(l: Ledger, number: i32, cap: i32, records: &mut [Team]) -> Roun
 }
 
 // The same over a table by value, which it lends: whoever calls this needs to know nothing of lending.
-pub fn step_in(l: Ledger, number: i32, cap: i32, records: [Team; 32]) -> Table
+pub fn step_in(l: Ledger, number: i32, cap: i32, records: [Team; Team::RECORDS]) -> Table
     ensures { λ r. ⌜ r ≡ tableStep l number cap records ⌝ }
 {
     let mut table = records;

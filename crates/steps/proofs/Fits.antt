@@ -28,6 +28,7 @@ use Rattle.steps.specs.declared.Team.{Team}
 use Rattle.steps.specs.Records.{childOn, sized, take, work}
 use Rattle.steps.specs.Places.{Search, scan, searchOf, again, onward, mine, stealable, takeMoves, workMoves, claimMoves, splitMoves, seekMoves, markMoves}
 use Rattle.steps.specs.Step.{stepFrom}
+use Rattle.steps.proofs.Runs.{step-keeps}
 use Rattle.steps.proofs.Asked.{Parent, Unsplit, by-mark, by-expand, by-look}
 use Rattle.steps.proofs.Fair.{is-child}
 
@@ -184,14 +185,7 @@ roams t r = scan-roams t r
 
 module _ (t cap : ℕ) (some : 1 ≤ cap) (l : Ledger) (w : WF l) (tl : 1 ≤ t) (th : t ≤ l .teams) (r : Team) (f : Fit cap (l .used) r) where
   pub step-grows : (p : Place) → l .used ≤ stepFrom p t cap l r .ledger .used
-  unfolding stepFrom
-  step-grows Seek = used-grows l _ w
-  step-grows Take = used-grows l _ w
-  step-grows Work = used-grows l _ w
-  step-grows Claim = used-grows l _ w
-  step-grows Mark = used-grows l _ w
-  step-grows Split = used-grows l _ w
-  step-grows Stopped = omega arith
+  step-grows = step-keeps cap t l r (λ (m : Ledger). l .used ≤ m .used) (omega arith) (λ q. used-grows l q w)
 
   pub step-fit : (p : Place) → Fit cap (stepFrom p t cap l r .ledger .used) (stepFrom p t cap l r .team)
   unfolding stepFrom

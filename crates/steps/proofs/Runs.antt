@@ -1,7 +1,7 @@
 -- What holds of a run of teams, step by step, whatever the cap of each step.
-use mathlib.Core.Path.{_≡_, refl, ap, _∙_}
+use mathlib.Core.Path.{_≡_, refl, sym, ap, _∙_}
 use mathlib.Core.Logic.{_≢_}
-use mathlib.Core.Bool.{true}
+use mathlib.Core.Bool.{Bool, true, false, cond}
 use mathlib.Core.List.{List, [], _∷_}
 use Prim.Native.Nat.{ℕ, zero, suc, _-_, _≤_, _<_}
 use native.Mathlib.Omega.{arith}
@@ -27,16 +27,16 @@ use Rattle.rules.proofs.Keeps.{wf-answered, requested-wf}
 use Rattle.rules.proofs.Opens.{opened-wf, opened-root}
 use Rattle.rules.proofs.Record.{WF, no-children, root-used}
 use Rattle.rules.proofs.Rooted.{rooted}
-use Rattle.rules.proofs.States.{never, is-available}
+use Rattle.rules.proofs.States.{is-available}
 use Rattle.rules.proofs.Tree.{from-root}
 use Rattle.rules.proofs.Tests.{passed}
 use Rattle.steps.specs.declared.Place.{Place}
 use Rattle.steps.specs.declared.Place.the-variants.{Seek, Take, Work, Claim, Mark, Split, Stopped}
 use Rattle.steps.specs.declared.Team.{Team}
 use Rattle.steps.specs.declared.Stepped.{Stepped}
-use Rattle.steps.specs.Records.{freshTeam, noTeam}
-use Rattle.steps.specs.Places.{searchOf}
-use Rattle.steps.specs.Step.{stepFrom, stepAt, unmoved, lentTests, lentCode, stepUnless, lentStep, recordsAfter, slotOf, recordOf}
+use Rattle.steps.specs.Records.{freshTeam, noTeam, isStopped}
+use Rattle.steps.specs.Places.{searchOf, lineFrom}
+use Rattle.steps.specs.Step.{asking, resting, stepFrom, stepAt, unmoved, lentTests, lentCode, stepUnless, lentStep, recordsAfter, slotOf, recordOf}
 use Rattle.steps.specs.Run.{Run, Due, FreshFor, begun, stepTeam, runSteps}
 use Rattle.steps.proofs.Stages.{Stage, ended, stageOf, stageAt, Tended, All, Moved}
 use Rattle.steps.proofs.Changes.{tended-shut, fresh-states}
@@ -90,29 +90,25 @@ teams-kept l q w = rw (requested-wf l q w) (go (nodeIn q) (decided (view l (node
     go n (Store y) = unfold changed put in refl
     go n (change.Split y p u v) = unfold changed put grown in refl
 
-module _ (cap t : ℕ) (l : Ledger) (w : WF l) (r : Team) where
-  wf-next : (q : Request) → WF (requested l q .ledger)
-  wf-next q = rw (requested-wf l q w) (wf-answered l q w)
-
-  step-wf : (p : Place) → WF (stepFrom p t cap l r .ledger)
+module _ (cap t : ℕ) (l : Ledger) (r : Team) where
+  -- a step makes one request or none, so what each request keeps every step keeps
+  pub step-keeps : (P : Ledger → Type 0) → P l → ((q : Request) → P (requested l q .ledger)) → (p : Place) → P (stepFrom p t cap l r .ledger)
   unfolding stepFrom
-  step-wf Seek = wf-next _
-  step-wf Take = wf-next _
-  step-wf Work = wf-next _
-  step-wf Claim = wf-next _
-  step-wf Mark = wf-next _
-  step-wf Split = wf-next _
-  step-wf Stopped = w
+  step-keeps P none one p = go (isStopped p)
+    where
+      asked : Stepped
+      asked = asking l (lineFrom p r .asks t r) (lineFrom p r .moves t cap r)
+
+      go : (b : Bool) → P (cond b (resting l r) asked .ledger)
+      go true = none
+      go false = one _
+
+module _ (cap t : ℕ) (l : Ledger) (w : WF l) (r : Team) where
+  step-wf : (p : Place) → WF (stepFrom p t cap l r .ledger)
+  step-wf = step-keeps cap t l r WF w (λ q. rw (requested-wf l q w) (wf-answered l q w))
 
   pub step-teams : (p : Place) → stepFrom p t cap l r .ledger .teams ≡ l .teams
-  unfolding stepFrom
-  step-teams Seek = teams-kept l _ w
-  step-teams Take = teams-kept l _ w
-  step-teams Work = teams-kept l _ w
-  step-teams Claim = teams-kept l _ w
-  step-teams Mark = teams-kept l _ w
-  step-teams Split = teams-kept l _ w
-  step-teams Stopped = refl
+  step-teams = step-keeps cap t l r (λ (m : Ledger). m .teams ≡ l .teams) refl (λ q. teams-kept l q w)
 
   module _ (tl : 1 ≤ t) (th : t ≤ l .teams) where
     step-fair : (p : Place)
@@ -135,21 +131,11 @@ module _ (cap t : ℕ) (l : Ledger) (w : WF l) (r : Team) where
         → stateOf (at (stepFrom p t cap l r .ledger) 1) ≡ AVAILABLE
         → Hopeful (stepFrom p t cap l r .team)
     unfolding stepFrom
-    step-hope Seek e (will-take f n) free still = never (cc)
-    step-hope Seek e (searching f h) free still = sought t r .hopes l w tl th free (lone-root l w free) h
-    step-hope Take e (will-take f n) free still =
-        absurd (taken l w t tl th 1 (root-used l w) (rw n at still))
-    step-hope Take e (searching f h) free still = never (cc)
-    step-hope Work e (will-take f n) free still = never (cc)
-    step-hope Work e (searching f h) free still = never (cc)
-    step-hope Claim e (will-take f n) free still = never (cc)
-    step-hope Claim e (searching f h) free still = never (cc)
-    step-hope Mark e (will-take f n) free still = never (cc)
-    step-hope Mark e (searching f h) free still = never (cc)
-    step-hope Split e (will-take f n) free still = never (cc)
-    step-hope Split e (searching f h) free still = never (cc)
-    step-hope Stopped e (will-take f n) free still = never (cc)
-    step-hope Stopped e (searching f h) free still = never (cc)
+    step-hope p e (will-take f n) free still =
+        let z : p ≡ Take = sym e ∙ f in
+        absurd (taken l w t tl th 1 (root-used l w) (rw (z, n) at still))
+    step-hope p e (searching f h) free still =
+        let z : p ≡ Seek = sym e ∙ f in rw z (sought t r .hopes l w tl th free (lone-root l w free) h)
 
 -- ---- a run
 

@@ -49,6 +49,7 @@ use denote.Triple.Table.{entered, cited}
 use denote.Triple.Walked.{says, Stays, stay-none, walkOf, goes-none, Walks, ends-at, walked, walk-meets}
 use denote.Exit.{yes}
 use Rattle.rules.specs.declared.Ledger.{Ledger}
+use Rattle.rules.specs.Limits.{maxTeams}
 use Rattle.rules.proofs.Ledger as L
 use Rattle.rules.proofs.Ledger.Laws as L′
 use Rattle.steps.specs.declared.Team.{Team}
@@ -71,15 +72,15 @@ use Rattle.rounds.proofs.step_in as step-in
 use Rattle.rounds.proofs.step_in.Statement as stated
 use Rattle.rounds.proofs.step_in.Code as code
 
--- `[Team; 32]`, and its laws
+-- the array of records, and its laws
 abbrev Ar : RattleType
-Ar = Array T.the-row 32
+Ar = Array T.the-row maxTeams
 
 abbrev av : List Team → Val
 av z = arrayVal (map T′.lowered z)
 
 ar-tells : Tells Ar (Is Ar) (λ z. av z ∷ [])
-ar-tells = array-tells T.the-row (λ y. T′.lowered y ∷ []) (T′.lowers .val-is) 32
+ar-tells = array-tells T.the-row (λ y. T′.lowered y ∷ []) (T′.lowers .val-is) maxTeams
 
 each-pure : (z : List Team) (us : List Val) → Pure (each Team (T.the-row .own) z us)
 each-pure [] [] = tt
@@ -97,7 +98,7 @@ each-in [] (u ∷ us) p = absurd p
 each-in (t ∷ z) [] p = absurd p
 each-in (t ∷ z) (u ∷ us) p = (p .0, each-in z us (p .1))
 
-in-field : (z : List Team) (w : Val) → Is Ar z (w ∷ []) → Is (Array (T.the-field .row) 32) (map (T.the-field .into) z) (w ∷ [])
+in-field : (z : List Team) (w : Val) → Is Ar z (w ∷ []) → Is (Array (T.the-field .row) maxTeams) (map (T.the-field .into) z) (w ∷ [])
 in-field z w p = (p .0, ((p .1 .0 .0, length-map z (T.the-field .into) ∙ p .1 .0 .1), each-in z (p .0) (p .1 .1)))
 
 abbrev stayed : Stays (step-in.ended .signature .params) (step-in.ended .kept)
@@ -109,7 +110,7 @@ Step 𝓤 H A mem run = tripleOf 𝓤 H A step.signature (step.spec 𝓤 H A mem
 
 module _ {M : Type 1} (𝓤 : URA M) (H : Heap 𝓤) (A : Atoms 𝓤) (W : Given 𝓤 H A) (at-mem : Memory → SProp 𝓤) (run : Routine → Fun 𝓤) (l : Ledger) (number cap : ℤ) (ys : List Team)
     (is-l : Is L.the-row l (LL.vals L.the-type L′.the-laws l)) (is-number : Is i32 number (sint-vals w32 number)) (is-cap : Is i32 cap (sint-vals w32 cap)) (is-ys : Is Ar ys (av ys ∷ [])) where
-  len : length ys ≡ 32
+  len : length ys ≡ maxTeams
   len = is-ys .1 .0 .1
 
   room : Room T.the-row (length ys)
@@ -166,15 +167,15 @@ module _ {M : Type 1} (𝓤 : URA M) (H : Heap 𝓤) (A : Atoms 𝓤) (W : Given
         qed W (‵ ftrue ∷ ‵ (owns (L.the-row ∷ i32 ∷ i32 ∷ Ar ∷ []) a vals) ∷ []) ∵ enter ! C Λ code.function (lv ∷ nv ∷ cv ∷ av ys ∷ []) _ $
         alloc1 ! (λ l₀. alloc1 ! (λ l₁. alloc1 ! (λ l₂. alloc1 ! (λ l₃. alloc1 ! (λ l₄. alloc1 ! (λ l₅. alloc1 ! (λ l₆. alloc1 ! (λ l₇. alloc1 ! (λ l₈. alloc1 ! (λ l₉. alloc0 ! $ params1 ! $
         pass1 ! (init ! 16 refl (LL.lawful L.the-type L′.the-laws 𝓤 H A W .typed l _ is-l .0)) $ pass1 ! (init ! 14 refl (sint-lawful 𝓤 H A W w32 .typed number _ is-number .0)) $ pass1 ! (init ! 12 refl (sint-lawful 𝓤 H A W w32 .typed cap _ is-cap .0)) $
-        pass1 ! (init ! 10 refl (array-lawful 𝓤 H A W T.the-row (LL.lawful T.the-type T′.the-laws 𝓤 H A W) 32 .typed ys _ is-ys .0)) $ pass0 ! $
+        pass1 ! (init ! 10 refl (array-lawful 𝓤 H A W T.the-row (LL.lawful T.the-type T′.the-laws 𝓤 H A W) maxTeams .typed ys _ is-ys .0)) $ pass0 ! $
         keep ! (0 ∷ 1 ∷ 2 ∷ 3 ∷ 4 ∷ 5 ∷ 6 ∷ 7 ∷ 8 ∷ 9 ∷ 10 ∷ 11 ∷ 12 ∷ 13 ∷ 14 ∷ 15 ∷ 16 ∷ 17 ∷ 18 ∷ 19 ∷ []) $
-        assigns ! (of-opd ! (load ! (from ! (stop !)) (look ! 10 refl))) (from ! (stop !)) (init ! 8 refl (array-lawful 𝓤 H A W T.the-row (LL.lawful T.the-type T′.the-laws 𝓤 H A W) 32 .typed ys _ is-ys .0)) $
+        assigns ! (of-opd ! (load ! (from ! (stop !)) (look ! 10 refl))) (from ! (stop !)) (init ! 8 refl (array-lawful 𝓤 H A W T.the-row (LL.lawful T.the-type T′.the-laws 𝓤 H A W) maxTeams .typed ys _ is-ys .0)) $
         assigns ! (addr ! (from ! (stop !))) (from ! (stop !)) (init ! 4 refl (tt, tt)) $
         assigns ! (agg ! (and-then ! (load ! (from ! (stop !)) (look ! 4 refl)) (and-then ! (lit ! tt) (no-more !)))) (from ! (stop !)) (init ! 2 refl (tt, (tt, (record { fits = lit< tt }, tt)))) $
         rewrite ! 2 (λ (m : ℕ). ‵ (fat fullShare (sliceTy (tyRef erased mut (pointee (T.the-row .written)))) l₈ 0 (sliceVal (l₅, 0) m))) (sym len) refl $
         -- the array in memory is a row of records, which is lent for a lifetime that is made here
         move ! (8 ∷ []) $ owned ! Ar (Is Ar) (array-makes 𝓤 H A) ys _ is-ys $ move ! (1 ∷ 0 ∷ []) $ use2 W (‵ (partAt Ar fullShare ys l₅ 0)) (part-in 𝓤 H A W Ar refl fullShare ys l₅ 0 (av ys)) $
-        use1 W (‵ (arr-parts (shares T.the-row) 32 .part fullShare ys l₅ 0)) (array-apart 𝓤 H A W T.the-row fullShare tt 32 ys l₅ 0) $ fsplit ! $ drop ! $ use1 W (‵ (cells (mem T.the-row) ys l₅ 0)) (whole-in 𝓤 H A W T.the-row ys l₅ 0) $
+        use1 W (‵ (arr-parts (shares T.the-row) maxTeams .part fullShare ys l₅ 0)) (array-apart 𝓤 H A W T.the-row fullShare tt maxTeams ys l₅ 0) $ fsplit ! $ drop ! $ use1 W (‵ (cells (mem T.the-row) ys l₅ 0)) (whole-in 𝓤 H A W T.the-row ys l₅ 0) $
         lft-new ! tt (λ α. move ! (1 ∷ []) $
         use1 W (later (some (λ (γ : GName). ‵ (MutSlice (named 0) (α ∷ []) T.the-row .own (x (α ∷ []) l₅ γ) (sv (α ∷ []) l₅ γ ∷ [])) ⊛ ‵ (flent (α ∷ []) (Held T.the-row (length ys) l₅ 0 γ))))) (lends-slice 𝓤 H A W T.the-row (named 0) (α ∷ []) ys l₅ 0 room) $
         await ! tt $ pick ! (λ γ. split ! $ move ! (2 ∷ 0 ∷ []) $
@@ -190,14 +191,14 @@ module _ {M : Type 1} (𝓤 : URA M) (H : Heap 𝓤) (A : Atoms 𝓤) (W : Given
         -- the lifetime is ended, and the array taken back
         split ! $ move ! (1 ∷ []) $ drop ! $ lft-end ! tt $ move ! (0 ∷ 2 ∷ 1 ∷ []) $
         use3 W (later (‵ (Arr (mem T.the-row) (length ys) .lies (zs .1 .1 .1 .0) l₅ 0))) (slice-back 𝓤 H A W T.the-row (α ∷ []) γ (zs .1 .1 .1 .0) (length ys) l₅ 0) $ await ! tt $ fsplit ! $ drop ! $
-        use1 W (‵ (row T.the-row fullShare (zs .1 .1 .1 .0) l₅ 0)) (whole-out 𝓤 H A W T.the-row (zs .1 .1 .1 .0) l₅ 0) $ feqI ! ℕ (length (zs .1 .1 .1 .0)) 32 (same ∙ len) $ fjoin ! $
-        use1 W (‵ (partAt Ar fullShare (zs .1 .1 .1 .0) l₅ 0)) (array-whole 𝓤 H A W T.the-row fullShare 32 (zs .1 .1 .1 .0) l₅ 0) $
+        use1 W (‵ (row T.the-row fullShare (zs .1 .1 .1 .0) l₅ 0)) (whole-out 𝓤 H A W T.the-row (zs .1 .1 .1 .0) l₅ 0) $ feqI ! ℕ (length (zs .1 .1 .1 .0)) maxTeams (same ∙ len) $ fjoin ! $
+        use1 W (‵ (partAt Ar fullShare (zs .1 .1 .1 .0) l₅ 0)) (array-whole 𝓤 H A W T.the-row fullShare maxTeams (zs .1 .1 .1 .0) l₅ 0) $
         use1 W (some (λ (w : Val). ‵ (fat fullShare (lone (Ar .mir)) l₅ 0 w) ⊛ ‵ (Ar .own (zs .1 .1 .1 .0) (w ∷ [])))) (part-out 𝓤 H A W Ar refl fullShare (zs .1 .1 .1 .0) l₅ 0) $ pick ! (λ w₄. split ! $ move ! (1 ∷ []) $
         peeks ! Ar (Is Ar) (shows 𝓤 H A Ar) (zs .1 .1 .1 .0) (w₄ ∷ []) (λ is₄. drop ! $
         let out : Table = record { round = r; records = zs .1 .1 .1 .0 } in
         let is : Is Tb.the-row out (vstruct (vcons w₅ (vcons w₄ vnil)) ∷ []) = ((w₅ ∷ [], (w₄ ∷ [], tt)), (refl, (is₅, (in-field (zs .1 .1 .1 .0) w₄ is₄, tt)))) in
         -- [_5; _9; …; _8; …; _7; …; _6; …; …; _4; …; …; _1; …; room for _0; …]
-        assigns ! (of-opd ! (load ! (from ! (stop !)) (look ! 0 refl))) (from ! (stop !)) (init ! 1 refl (array-lawful 𝓤 H A W T.the-row (LL.lawful T.the-type T′.the-laws 𝓤 H A W) 32 .typed (zs .1 .1 .1 .0) _ is₄ .0)) $
+        assigns ! (of-opd ! (load ! (from ! (stop !)) (look ! 0 refl))) (from ! (stop !)) (init ! 1 refl (array-lawful 𝓤 H A W T.the-row (LL.lawful T.the-type T′.the-laws 𝓤 H A W) maxTeams .typed (zs .1 .1 .1 .0) _ is₄ .0)) $
         assigns ! (agg ! (and-then ! (load ! (from ! (stop !)) (look ! 7 refl)) (and-then ! (load ! (from ! (stop !)) (look ! 1 refl)) (no-more !)))) (from ! (stop !)) (init ! 18 refl (LL.lawful Tb.the-type Tb′.the-laws 𝓤 H A W .typed out _ is .0)) $
         returns ! (look ! 18 refl) $ forget ! 0 refl $ forget ! 1 refl $ forget ! 3 refl $ forget ! 5 refl $ forget ! 7 refl $ forget ! 10 refl $ forget ! 12 refl $ forget ! 14 refl $ forget ! 16 refl $ forget ! 18 refl $
         move ! (18 ∷ 19 ∷ []) $ free1 ! $ move ! (16 ∷ 17 ∷ []) $ free1 ! $ move ! (14 ∷ 15 ∷ []) $ free1 ! $ move ! (12 ∷ 13 ∷ []) $ free1 ! $ move ! (10 ∷ 11 ∷ []) $ free1 ! $ move ! (0 ∷ 9 ∷ []) $ free1 ! $ move ! (6 ∷ 7 ∷ []) $ free1 ! $ move ! (4 ∷ 5 ∷ []) $ free1 ! $ move ! (2 ∷ 3 ∷ []) $ free1 ! $ free1 ! $ free0 ! $
