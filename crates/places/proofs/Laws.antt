@@ -16,11 +16,12 @@ use Rattle.steps.specs.declared.Place.the-variants.{Seek, Take, Work, Claim, Ma
 use Rattle.steps.specs.declared.Team.{Team}
 use Rattle.steps.specs.Places.{lineFrom}
 use Rattle.steps.specs.Records.{maxNode}
-use Rattle.places.specs.Clipped.{clippedTeam, clippedAnswer, clippedRequest, clippedMoves, Limited, UnclippedAsks, UnclippedMoves}
+use Rattle.places.specs.Clipped.{clippedTeam, clippedAnswer, clippedRequest, clippedAsks, clippedMoves, Limited, UnclippedAsks, UnclippedMoves}
 
 -- the moves from the place that a record is found at
 pub from-place : (number cap : ℕ) (r : Team) (a : Answer) (p : Place) → r .place ≡ p
     → lineFrom p (clippedTeam r) .moves number cap (clippedTeam r) (clippedAnswer a) ≡ clippedMoves number cap r a
+unfolding clippedMoves
 from-place number cap r a p e =
     sym (ap (λ (q : Place). lineFrom q (clippedTeam r) .moves number cap (clippedTeam r) (clippedAnswer a)) e)
 
@@ -40,6 +41,7 @@ small-request t r kind amount p h k a =
     (signed-is kind (omega arith), signed-is t (omega (arith, h .number-high)), signed-is (r .node) (omega (arith, h .node-high)), signed-is amount (omega arith))
 
 pub unclipped-asks : UnclippedAsks
+unfolding clippedAsks
 unclipped-asks t r h = go (r .place)
   where
     go : (p : Place) → clippedRequest (lineFrom p r .asks t r) ≡ lineFrom p r .asks t r
@@ -55,4 +57,5 @@ small : (n : ℕ) → n ≤ maxNode → min n maxNode ≡ n
 small n h = omega arith
 
 pub unclipped-moves : UnclippedMoves
+unfolding clippedMoves
 unclipped-moves t cap r a node left = rw (small (r .node) node, small (a .left) left)

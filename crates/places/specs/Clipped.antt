@@ -36,10 +36,10 @@ clippedRequest q =
 
 -- ---- what the code of a place says
 
-abbrev pub clippedAsks : ℕ → Team → Request
+unfoldable pub clippedAsks : ℕ → Team → Request
 clippedAsks t r = clippedRequest (asks t r)
 
-abbrev pub clippedMoves : ℕ → ℕ → Team → Answer → Team
+unfoldable pub clippedMoves : ℕ → ℕ → Team → Answer → Team
 clippedMoves t cap r a = moves t cap (clippedTeam r) (clippedAnswer a)
 
 -- ---- and within the limits it is what the definitions say

@@ -1,37 +1,44 @@
 -- What the code of a step needs of the definitions, over plain variables.
 use mathlib.Core.Path.{_≡_, refl, _∙_}
-use mathlib.Core.Bool.{Bool, true, false, cond, _||_, true≢false}
+use mathlib.Core.Logic.{_≢_}
+use mathlib.Core.Bool.{Bool, true, false, cond, not, _||_, true≢false}
+use mathlib.Core.List.{List}
 use Prim.Native.Nat.{ℕ, _≤_, _<_}
 use native.Mathlib.Omega.{arith}
-use native.Mathlib.Decide.{decLe, decLt}
-use lib.Dec.{eqb}
+use native.Mathlib.Decide.{ℕ-discrete, decLe, decLt}
+use lib.Dec.{T, eqb}
 use lib.IntN.{ℤ, pos}
-use borrow.Author.Tests.{not-false}
+use borrow.Author.Tests.{eqb-true, eq-eqb, ne-eqb, not-false}
 use Rattle.numbers.specs.Fields.{within, natOf}
 use Rattle.numbers.proofs.Laws.{within-true}
 use Rattle.rules.specs.declared.Ledger.{Ledger}
 use Rattle.rules.specs.declared.Request.{Request}
+use Rattle.rules.specs.declared.Answer.{Answer}
 use Rattle.rules.specs.declared.Answered.{Answered}
 use Rattle.rules.specs.declared.View.{View}
 use Rattle.rules.specs.declared.Outcome.{Outcome}
+use Rattle.rules.specs.declared.Change.{Change}
 use Rattle.rules.specs.declared.Change.the-variants.{Keep}
 use Rattle.rules.specs.Asks.{OWN, ADVANCE, MARK, EXPAND}
-use Rattle.rules.specs.Limits.{maxCap}
-use Rattle.rules.specs.Refusals.{refusal}
-use Rattle.rules.specs.Requests.{refusing, outcome, owning, advancing, marking, expanding, looking, granted, decided, view, nodeIn, answered, requested}
+use Rattle.rules.specs.Limits.{maxTeams, maxCap}
+use Rattle.rules.specs.Refusals.{allTests, ownTests, advanceTests, markTests, expandTests, ownCode, advanceCode, markCode, expandCode, kindCode, refusal}
+use Rattle.rules.specs.Requests.{refused, refusing, outcome, owning, advancing, marking, expanding, looking, granted, decided, view, nodeIn, answered, requested}
 use Rattle.rules.specs.Table.{at}
+use Rattle.rules.specs.Tests.{Test, first}
 use Rattle.rules.specs.WellFormed.{wellFormed, Sized, Sound}
 use Rattle.rules.proofs.Keeps.{requested-wf}
 use Rattle.rules.proofs.Record.{WF, rules, both-sound, used-high}
 use Rattle.rules.proofs.Spare.{spare}
-use Rattle.rules.proofs.Tests.{passed}
+use Rattle.rules.proofs.Tests.{lacks, passed-to, passed}
 use Rattle.ledger.proofs.Laws.{until-small}
 use Rattle.steps.specs.declared.Team.{Team}
+use Rattle.steps.specs.declared.Stepped.{Stepped}
 use Rattle.steps.specs.Records.{maxNode, isStopped}
-use Rattle.steps.specs.Step.{resting, stepFrom, stepAt, unfit, soloTests, soloCode}
-use Rattle.steps.specs.Turn.{asks, moves, still, turned}
+use Rattle.steps.specs.Step.{unmoved, stepFrom, stepAt, unfit, laterTests, soloCode, stepUnless, soloStep}
+use Rattle.steps.specs.Turn.{asks, still, turned}
 use Rattle.places.specs.Clipped.{clippedAsks, clippedMoves, Limited, Ready}
 use Rattle.places.proofs.Laws.{unclipped-asks, unclipped-moves}
+use Rattle.teams.specs.Clipped.{heard, withLedger, clippedStep}
 
 -- ---- the limits of what a team sees
 
@@ -97,51 +104,81 @@ module _ (l : Ledger) (s : Sound l) where
       (requested-wf l q w)
       (left-small (view l (nodeIn q)) q maxNode (any-child-small (nodeIn q)) (omega (arith, spare l w .next, used-high l w)))
 
--- ---- a step's parts put together, where the limits hold
+-- ---- 1 is the code of no refusal but that of a ledger that is not well formed
 
-module _ (number cap : ℕ) (l : Ledger) (r : Team) where
-  pub step-rests : isStopped (r .place) ≡ true → stepAt number cap l r ≡ resting l r
-  unfolding stepFrom
-  step-rests e = rw e
+never-one : (v : View) (q : Request) → refusal v q ≢ 1
+unfolding refusal kindCode ownCode advanceCode markCode expandCode
+never-one v q e = of-kind (is OWN) (is ADVANCE) (is MARK) (is EXPAND) (passed-to 1 (allTests v q) (kindCode v q) tt e .1)
+  where
+    is : ℕ → Bool
+    is kind = eqb (natOf (q .kind)) kind
 
-  pub step-made : {q : Request} {d : Answered} {m : Team} {kind node : ℕ}
-      → Sound l
-      → Limited number r
-      → isStopped (r .place) ≡ false
-      → q ≡ clippedAsks number r
-      → d ≡ requested l q
-      → m ≡ clippedMoves number cap r (d .answer)
-      → kind ≡ natOf (q .kind)
-      → node ≡ natOf (q .node)
-      → record { ledger = d .ledger; team = m; kind = kind; node = node; answer = d .answer } ≡ stepAt number cap l r
-  unfolding stepFrom
-  step-made {q} {d} {m} sound limited going asked done moved k n =
-      let small : d .answer .left ≤ maxNode = rw done (answer-small l sound q) in
-      let q-is : q ≡ asks number r = asked ∙ unclipped-asks number r limited in
-      let m-is : m ≡ moves number cap r (d .answer) = moved ∙ unclipped-moves number cap r (d .answer) (limited .node-high) small in
-      rw (going, m-is, k, n, done, q-is)
+    nothing : (ts : List Test) → T (lacks 1 ts) → first ts 0 ≡ 1 → ⊥
+    nothing ts p e = let z = passed-to 1 ts 0 p e .1 in omega arith
+
+    of-kind : (a b c d : Bool)
+        → cond a (ownCode (v .node)) (cond b (advanceCode (v .node) q) (cond c (markCode v q) (cond d (expandCode (v .node)) 0))) ≡ 1
+        → ⊥
+    of-kind true b c d = nothing (ownTests (v .node)) tt
+    of-kind false true c d = nothing (advanceTests (v .node) q) tt
+    of-kind false false true d = nothing (markTests v q) tt
+    of-kind false false false true = nothing (expandTests (v .node)) tt
+    of-kind false false false false = λ e. omega arith
+
+not-one : (v : View) (q : Request) → decided v q .answer .code ≢ 1
+unfolding decided
+not-one v q = refused-or (eqb (refusal v q) 0)
+  where
+    of-kind : (a b c d : Bool)
+        → cond a (owning v q) (cond b (advancing v q) (cond c (marking v q) (cond d (expanding v) (looking v)))) .answer .code ≢ 1
+    of-kind true b c d = unfold owning in (omega arith)
+    of-kind false true c d = unfold advancing in (omega arith)
+    of-kind false false true d = unfold marking in (omega arith)
+    of-kind false false false true = unfold expanding in (omega arith)
+    of-kind false false false false = unfold looking in (omega arith)
+
+    refused-or : (b : Bool) → cond b (granted v q) (outcome (refusing v (refusal v q)) Keep) .answer .code ≢ 1
+    refused-or true =
+        unfold granted in (of-kind (eqb (natOf (q .kind)) OWN) (eqb (natOf (q .kind)) ADVANCE) (eqb (natOf (q .kind)) MARK) (eqb (natOf (q .kind)) EXPAND))
+    refused-or false = never-one v q
+
+-- ---- what was heard
+
+pub hear-made : (number cap : ℕ) (r : Team) (q : Request) (a : Answer) (c : Change) {m : Team} {kind node : ℕ}
+    → m ≡ clippedMoves number cap r a
+    → kind ≡ natOf (q .kind)
+    → node ≡ natOf (q .node)
+    → record { team = m; kind = kind; node = node; answer = a; change = c } ≡ heard number cap r q a c
+unfolding heard
+hear-made number cap r q a c moved k n = rw (moved, k, n)
+
+pub ask-made : (number cap : ℕ) (l : Ledger) (r : Team) {q : Request} {d : Answered} {x : Stepped} (b : Bool)
+    → q ≡ clippedAsks number r
+    → d ≡ requested l q
+    → eqb (d .answer .code) 1 ≡ b
+    → x ≡ cond b (unmoved 1 l r) (withLedger (d .ledger) (heard number cap r q (d .answer) Keep))
+    → x ≡ clippedStep number cap l r
+unfolding clippedStep
+ask-made number cap l r {q} {d} b asked done e is = is ∙ rw (← asked, ← done, e)
+
+-- ---- a turn, where the limits hold
 
 module _ (number cap : ℕ) (r : Team) (v : View) where
   pub turn-rests : isStopped (r .place) ≡ true → turned number cap r v ≡ still r
   unfolding turned
   turn-rests e = rw e
 
-  pub turn-made : {q : Request} {o : Outcome} {m : Team} {kind node : ℕ}
+  pub turn-made : {q : Request} {o : Outcome}
       → Ready number r v
       → isStopped (r .place) ≡ false
       → q ≡ clippedAsks number r
       → o ≡ decided v q
-      → m ≡ clippedMoves number cap r (o .answer)
-      → kind ≡ natOf (q .kind)
-      → node ≡ natOf (q .node)
-      → record { team = m; kind = kind; node = node; answer = o .answer; change = o .change } ≡ turned number cap r v
-  unfolding turned
-  turn-made {q} {o} {m} ready going asked done moved k n =
+      → heard number cap r q (o .answer) (o .change) ≡ turned number cap r v
+  unfolding heard turned
+  turn-made {q} {o} ready going asked done =
       let small : o .answer .left ≤ maxNode = rw done (left-small v q maxNode (ready .left-high) (ready .pair-high)) in
       let q-is : q ≡ asks number r = asked ∙ unclipped-asks number r (ready .limited) in
-      let m-is : m ≡ moves number cap r (o .answer) =
-      moved ∙ unclipped-moves number cap r (o .answer) (ready .limited .node-high) small in
-      rw (going, m-is, k, n, done, q-is)
+      rw (going, unclipped-moves number cap r (o .answer) (ready .limited .node-high) small, done, q-is)
 
 -- ---- the tests passed
 
@@ -149,7 +186,7 @@ neither : (a b : Bool) → (a || b) ≡ false → (a ≡ false) × (b ≡ false)
 neither true b e = absurd (true≢false e)
 neither false b e = (refl, e)
 
-fit-limits : (number : ℕ) (cap : ℤ) (r : Team) → number ≤ 32 → unfit cap r ≡ false → Limited number r
+fit-limits : (number : ℕ) (cap : ℤ) (r : Team) → number ≤ maxTeams → unfit cap r ≡ false → Limited number r
 fit-limits number cap r small e =
     let a = neither _ _ e in
     let b = neither _ _ (a .1) in
@@ -158,17 +195,62 @@ fit-limits number cap r small e =
     let s = within-true (pos (r .size)) 1 (natOf cap) (not-false (within (pos (r .size)) 1 (natOf cap)) (b .1)) in
     record { number-high = small; node-high = n .high; size-high = omega (arith, s .high, c .high) }
 
-pub record Passes (l : Ledger) (number : ℤ) (r : Team) : Type 0 where
-  pub formed : wellFormed l ≡ true
-  pub limited : Limited (natOf number) r
+-- ---- a step
 
-pub passes : (l : Ledger) → Sized l → (number cap : ℤ) (r : Team) → soloCode l number cap r ≡ 0 → Passes l number r
-unfolding soloCode
-passes l sized number cap r e =
-    let t = passed (soloTests l number cap r) 0 tt e .0 in
-    let formed = not-false (wellFormed l) (t .0) in
-    let n = within-true number 1 (l .teams) (not-false (within number 1 (l .teams)) (t .1 .0)) in
-    record {
-      formed = formed;
-      limited = fit-limits (natOf number) cap r (omega (arith, n .high, rules l (both-sound sized formed) .limits .teams-high)) (t .1 .1 .0);
-    }
+-- by the test that its code makes
+pub rests-by : (k : ℕ) (stopped : Bool) → (not (eqb k 0) || stopped) ≡ true → k ≡ 0 → stopped ≡ true
+rests-by k stopped e z = rw (eq-eqb k 0 z) at e
+
+pub goes-by : (k : ℕ) (stopped : Bool) → (not (eqb k 0) || stopped) ≡ false → (k ≡ 0) × (stopped ≡ false)
+goes-by k stopped e = let h = neither (not (eqb k 0)) stopped e in (eqb-true k 0 (not-false (eqb k 0) (h .0)), h .1)
+
+module _ (l : Ledger) (number cap : ℤ) (r : Team) where
+  abbrev t : ℕ
+  t = natOf number
+
+  abbrev later : ℕ
+  later = first (laterTests (l .teams) number cap r) 0
+
+  -- none is made where a test holds, or the team has stopped
+  pub step-rests : (later ≡ 0 → isStopped (r .place) ≡ true) → unmoved (cond (not (wellFormed l)) 1 later) l r ≡ soloStep l number cap r
+  unfolding soloStep soloCode stepUnless stepFrom
+  step-rests stopped = go (wellFormed l) (ℕ-discrete later 0)
+    where
+      v : Bool → ℕ → Stepped
+      v b c = cond (eqb (cond (not b) 1 c) 0) (stepAt t (natOf cap) l r) (unmoved (cond (not b) 1 c) l r)
+
+      go : (b : Bool) → Dec (later ≡ 0) → unmoved (cond (not b) 1 later) l r ≡ v b later
+      go false d = refl
+      go true (yes e) = rw (e, stopped e)
+      go true (no ne) = rw (ne-eqb later 0 ne)
+
+  -- else the request is made; on a ledger that is not well formed its code is 1
+  module _ (sized : Sized l) (passes : later ≡ 0) (going : isStopped (r .place) ≡ false) where
+    abbrev q : Request
+    q = clippedAsks t r
+
+    limits : wellFormed l ≡ true → Limited t r
+    limits formed =
+        let p = passed (laterTests (l .teams) number cap r) 0 tt passes .0 in
+        let n = within-true number 1 (l .teams) (not-false (within number 1 (l .teams)) (p .0)) in
+        fit-limits t cap r (omega (arith, n .high, rules l (both-sound sized formed) .limits .teams-high)) (p .1 .0)
+
+    pub step-made : clippedStep t (natOf cap) l r ≡ soloStep l number cap r
+    unfolding clippedStep soloStep soloCode stepUnless answered
+    step-made = go (wellFormed l) refl
+      where
+        unformed : wellFormed l ≡ false → requested l q ≡ record { ledger = l; answer = refused 1 }
+        unformed e = unfold requested in (rw e)
+
+        made : (limited : Limited t r) → requested l q .answer .left ≤ maxNode
+            → withLedger (requested l q .ledger) (heard t (natOf cap) r q (requested l q .answer) Keep) ≡ stepAt t (natOf cap) l r
+        made limited small =
+            unfold stepFrom heard in
+            (rw (going, unclipped-moves t (natOf cap) r (requested l q .answer) (limited .node-high) small, unclipped-asks t r limited))
+
+        go : (b : Bool) → wellFormed l ≡ b → clippedStep t (natOf cap) l r ≡ soloStep l number cap r
+        go false e = rw (unformed e, e)
+        go true e =
+            let sound = both-sound sized e in
+            let one : requested l q .answer .code ≢ 1 = rw (requested-wf l q (rules l sound)) (not-one (view l (nodeIn q)) q) in
+            rw (e, passes, ne-eqb _ 1 one) (made (limits e) (answer-small l sound q))

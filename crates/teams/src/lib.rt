@@ -1,13 +1,15 @@
 // One team's step, with its record by value: exactly as the definitions of `steps` say.
 ghost use mathlib.Core.Path.{_≡_};
-ghost use mathlib.Core.Bool.{true};
-ghost use Rattle.rules.specs.WellFormed.{wellFormed};
-ghost use Rattle.steps.specs.Step.{unfit, soloCode, unmoved, stepAt, soloStep};
+ghost use Rattle.rules.specs.Tests.{first};
+ghost use Rattle.steps.specs.Step.{unfit, laterTests, unmoved, soloStep};
 ghost use Rattle.steps.specs.Turn.{still, turned};
-ghost use Rattle.places.specs.Clipped.{Limited, Ready};
+ghost use Rattle.places.specs.Clipped.{Ready};
+ghost use Rattle.teams.specs.Clipped.{heard, clippedStep};
+use rules::Answer;
 use rules::Change;
 use rules::Ledger;
 use rules::Opening;
+use rules::Request;
 use rules::View;
 use steps::Stepped;
 use steps::Team;
@@ -24,12 +26,12 @@ fn is_unfit(cap: i32, t: Team) -> bool
     !capped | (!placed | !sized)
 }
 
-fn code_of(l: Ledger, number: i32, cap: i32, t: Team) -> u32
-    ensures { λ c. ⌜ c ≡ soloCode l number cap t ⌝ }
+// 3 and 19: the tests that need no look at the table.
+fn later_code(teams: u32, number: i32, cap: i32, t: Team) -> u32
+    ensures { λ c. ⌜ c ≡ first (laterTests teams number cap t) 0 ⌝ }
 {
     let c19 = numbers::given_code(is_unfit(cap, t), 19, 0);
-    let c3 = numbers::given_code(!numbers::in_range(number, 1, l.teams), 3, c19);
-    numbers::given_code(!forms::well_formed(l), 1, c3)
+    numbers::given_code(!numbers::in_range(number, 1, teams), 3, c19)
 }
 
 fn unmoved_by(code: u32, l: Ledger, t: Team) -> Stepped
@@ -45,41 +47,60 @@ fn unmoved_by(code: u32, l: Ledger, t: Team) -> Stepped
     }
 }
 
-fn step_at(number: u32, cap: u32, l: Ledger, t: Team) -> Stepped
-    ensures { λ r. ⌜ (wellFormed l ≡ true → Limited number t → r ≡ stepAt number cap l t) ⌝ }
+// The record after the answer, with what was asked.
+fn hear(number: u32, cap: u32, t: Team, q: Request, a: Answer, c: Change) -> Turned
+    ensures { λ r. ⌜ r ≡ heard number cap t q a c ⌝ }
 {
-    let place = t.place;
-    if places::has_stopped(place) {
-        return unmoved_by(0, l, t);
-    }
-    let q = places::asks_of(number, t);
-    let done = ledger::request(l, q);
-    let next = done.ledger;
-    let answer = done.answer;
-    let team = places::moves_of(number, cap, t, answer);
+    let team = places::moves_of(number, cap, t, a);
     let kind = numbers::natural(q.kind);
     let node = numbers::natural(q.node);
-    Stepped {
-        ledger: next,
+    Turned {
         team: team,
         kind: kind,
         node: node,
-        answer: answer,
+        answer: a,
+        change: c,
+    }
+}
+
+// A step that makes its request, which tests the ledger: 1 is the code of no other refusal.
+fn ask(number: u32, cap: u32, l: Ledger, t: Team) -> Stepped
+    ensures { λ r. ⌜ r ≡ clippedStep number cap l t ⌝ }
+{
+    let q = places::asks_of(number, t);
+    let done = ledger::request(l, q);
+    let answer = done.answer;
+    if answer.code == 1 {
+        return unmoved_by(1, l, t);
+    }
+    let next = done.ledger;
+    let u = hear(number, cap, t, q, answer, Change::Keep);
+    let team = u.team;
+    let told = u.answer;
+    Stepped {
+        ledger: next,
+        team: team,
+        kind: u.kind,
+        node: u.node,
+        answer: told,
     }
 }
 
 // A step of the team with this number and this record, in a run with this cap. It is refused by 1, 3 and 19, in this order; with one
-// record by value none can be too few.
+// record by value none can be too few. The ledger is tested once: by the request, or here where none is made.
 pub fn step(l: Ledger, number: i32, cap: i32, team: Team) -> Stepped
     ensures { λ r. ⌜ r ≡ soloStep l number cap team ⌝ }
 {
-    let code = code_of(l, number, cap, team);
-    if code != 0 {
+    let later = later_code(l.teams, number, cap, team);
+    let place = team.place;
+    let stopped = places::has_stopped(place);
+    if (later != 0) | stopped {
+        let code = numbers::given_code(!forms::well_formed(l), 1, later);
         return unmoved_by(code, l, team);
     }
     let t = numbers::natural(number);
     let most = numbers::natural(cap);
-    step_at(t, most, l, team)
+    ask(t, most, l, team)
 }
 
 fn still_turn(t: Team) -> Turned
@@ -108,14 +129,5 @@ pub fn turn(number: u32, cap: u32, t: Team, v: View) -> Turned
     let o = requests::decide(v, q);
     let answer = o.answer;
     let change = o.change;
-    let team = places::moves_of(number, cap, t, answer);
-    let kind = numbers::natural(q.kind);
-    let node = numbers::natural(q.node);
-    Turned {
-        team: team,
-        kind: kind,
-        node: node,
-        answer: answer,
-        change: change,
-    }
+    hear(number, cap, t, q, answer, change)
 }

@@ -1,10 +1,12 @@
 -- The request of each place.
 use borrow.Author.Needs.{needs}
 use Rattle.numbers.proofs.Signed.{told}
+use Rattle.places.specs.Clipped.{clippedAsks}
 use Rattle.places.proofs.asks_of.Statement.{statement}
 use Rattle.places.proofs.asks_of.Tie as tie
 
 pub asks-of-spec : {M : Type 1} → statement M
+unfolding clippedAsks
 asks-of-spec = tie.close (tie.spec
     (λ c. search needs)
     (λ c κs. tt)

@@ -3,12 +3,13 @@ use borrow.Author.Needs.{needs}
 use mathlib.Core.Path.{_∙_}
 use Rattle.steps.specs.declared.Place.the-variants.{Seek, Take, Work, Claim, Mark, Split}
 use Rattle.steps.specs.Places.{searchOf, seekMoves, markMoves, takeMoves, workMoves, claimMoves, splitMoves}
+use Rattle.places.specs.Clipped.{clippedMoves}
 use Rattle.places.proofs.Laws.{from-place}
 use Rattle.places.proofs.moves_of.Statement.{statement}
 use Rattle.places.proofs.moves_of.Tie as tie
 
 pub moves-of-spec : {M : Type 1} → statement M
-unfolding searchOf seekMoves markMoves takeMoves workMoves claimMoves splitMoves
+unfolding clippedMoves searchOf seekMoves markMoves takeMoves workMoves claimMoves splitMoves
 moves-of-spec = tie.close (tie.spec
     (λ c. search needs)
     (λ c κs. tt)

@@ -1,6 +1,5 @@
 -- One request, that of the record's place, and none where it has stopped.
 use mathlib.Core.Path.{sym, _∙_}
-use Rattle.nodes.proofs.Laws.{natural-held}
 use Rattle.teams.proofs.Laws.{turn-rests, turn-made}
 use Rattle.teams.proofs.turn.Statement.{statement}
 use Rattle.teams.proofs.turn.Tie as tie
@@ -13,6 +12,4 @@ turn-spec = tie.close (tie.spec
     (λ c κs. tt)
     (λ c κs. tt)
     (λ c κs. tt)
-    (λ c κs. tt)
-    (λ c κs. tt)
-    (λ c. λ k. let q = c .before .before .before .before .before .before .before .asks-of .result in let done = c .before .before .before .before .before .before .decide .ensures (k .until-high) in turn-made _ _ _ _ k (sym (c .before .before .before .before .before .before .before .before .before .has-stopped .ensures) ∙ c .before .before .before .before .before .before .before .before .if1 .left) (c .before .before .before .before .before .before .before .asks-of .ensures) done (c .before .before .before .before .moves-of .ensures) (sym (natural-held (q .kind) _ (c .before .before .before .struct-told .given .0 .1) (c .before .before .natural .ensures))) (sym (natural-held (q .node) _ (c .before .struct-told2 .given .1 .1 .0 .1) (c .natural2 .ensures)))))
+    (λ c. λ k. c .hear .ensures ∙ turn-made _ _ _ _ k (sym (c .before .before .before .before .before .has-stopped .ensures) ∙ c .before .before .before .before .if1 .left) (c .before .before .before .asks-of .ensures) (c .before .before .decide .ensures (k .until-high))))

@@ -1,0 +1,32 @@
+-- A step as its code takes it, for any record at all: what is asked and where the answer sends the team are clipped as the places clip them.
+-- Within the limits it is the definitions' step.
+use Prim.Native.Nat.{ℕ}
+use mathlib.Core.Bool.{cond}
+use lib.Dec.{eqb}
+use Rattle.numbers.specs.Fields.{natOf}
+use Rattle.rules.specs.declared.Ledger.{Ledger}
+use Rattle.rules.specs.declared.Request.{Request}
+use Rattle.rules.specs.declared.Answer.{Answer}
+use Rattle.rules.specs.declared.Change.{Change}
+use Rattle.rules.specs.declared.Change.the-variants.{Keep}
+use Rattle.rules.specs.Requests.{nodeIn, requested}
+use Rattle.steps.specs.declared.Team.{Team}
+use Rattle.steps.specs.declared.Turned.{Turned}
+use Rattle.steps.specs.declared.Stepped.{Stepped}
+use Rattle.steps.specs.Step.{unmoved}
+use Rattle.places.specs.Clipped.{clippedAsks, clippedMoves}
+
+-- the request was made, and is answered so
+unfoldable pub heard : ℕ → ℕ → Team → Request → Answer → Change → Turned
+heard t cap r q a c =
+    record { team = clippedMoves t cap r a; kind = natOf (q .kind); node = nodeIn q; answer = a; change = c }
+
+abbrev pub withLedger : Ledger → Turned → Stepped
+withLedger l u = record { ledger = l; team = u .team; kind = u .kind; node = u .node; answer = u .answer }
+
+-- The request itself tests the ledger: 1 is the code of no other refusal, and then the step is refused.
+unfoldable pub clippedStep : ℕ → ℕ → Ledger → Team → Stepped
+clippedStep t cap l r =
+    let q = clippedAsks t r in
+    let d = requested l q in
+    cond (eqb (d .answer .code) 1) (unmoved 1 l r) (withLedger (d .ledger) (heard t cap r q (d .answer) Keep))

@@ -1,0 +1,2 @@
+-- What the code of a step says of any numbers at all.
+pub mod Clipped
