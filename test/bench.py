@@ -45,6 +45,14 @@ def counts(words, text):
     return 0 if listing.startswith(b'refused') else numbers - 5, listing.count(b'\n')
 
 
+def base(text):
+    """The empty run whose time is taken off a text's: a refused text opens no ledger, so its is the empty text."""
+    name = os.path.basename(text)
+    bases = {'empty': None, 'nothing': None, 'refused': 'nothing'}
+    taken_off = bases.get(name, 'empty')
+    return taken_off and os.path.join(os.path.dirname(text), taken_off)
+
+
 def ratio(one, other):
     return '%.2f' % (one / other) if other > 0 else '-'
 
@@ -55,10 +63,9 @@ def main():
     with tempfile.TemporaryDirectory() as room:
         titles = longest.write(room)
         best = times(repeats, programs, list(titles))
-        empty = next(iter(titles))
 
         def net(program, text):
-            return best[program, text] - (0 if text == empty else best[program, empty])
+            return best[program, text] - best.get((program, base(text)), 0)
 
         print('| Text | Steps | Lines | sheets, ms | twin, ms | Ratio |\n|---|---|---|---|---|---|')
         for text, title in titles.items():

@@ -54,9 +54,10 @@ def many_nodes():
         return file.read()
 
 
-# The first is the empty run: a header and no step.
+# The first two are empty runs: a header and no step, and nothing at all, which is refused.
 TEXTS = [
     ('empty', 'an empty run, in all', header(SHEETS, 2, 3)),
+    ('nothing', 'an empty text, refused, in all', ''),
     ('2-3', '2 teams, 3 nodes', playing(2, 3)),
     ('2-1023', '2 teams, 1,023 nodes', playing(2, 1023)),
     ('32-3', '32 teams, 3 nodes', playing(32, 3)),

@@ -33,16 +33,20 @@ fn listing_area() -> [u8; BYTES]
 // The same for a text of fewer than 4,096 bytes, as most are: by the theorem its listing is the same, and far less is to be cleared.
 const SHORT: usize = 4096;
 
-fn short_schedule_area() -> [i32; 2048]
+const SHORT_NUMBERS: usize = 2048;
+
+const SHORT_BYTES: usize = Written::LONGEST * (SHORT_NUMBERS + 2);
+
+fn short_schedule_area() -> [i32; SHORT_NUMBERS]
     ensures { λ r. ⌜ shortScheduleRoom ≡ length r ⌝ }
 {
-    [0; 2048]
+    [0; SHORT_NUMBERS]
 }
 
-fn short_listing_area() -> [u8; 82000]
+fn short_listing_area() -> [u8; SHORT_BYTES]
     ensures { λ r. ⌜ shortListingRoom ≡ length r ⌝ }
 {
-    [0; 82000]
+    [0; SHORT_BYTES]
 }
 
 // How many bytes are moved so far, whether another call is to be made, and whether the last one found that nothing is left to move.
