@@ -20,7 +20,7 @@ use Rattle.text.specs.declared.Tally.{Tally}
 use Rattle.text.specs.declared.Survey.{Survey}
 use Rattle.text.specs.declared.Heading.{Heading}
 use Rattle.text_rules.specs.Marks.{Mark, marks}
-use Rattle.text_rules.specs.Lines.{headLine, fromHead, lineNumbers, afterLine, leftAfter, numbersOf}
+use Rattle.text_rules.specs.Lines.{headLine, fromHead, lineNumbers, afterLine, leftAfter}
 use Rattle.text_rules.specs.Judgement.{maxBytes, isHeader, ruled, granted, isGranted, given, faultFrom, openingOf, headOf, headVerdict, headerVerdict, scheduleMarks, scheduleNumbers, bodyVerdict, scheduleVerdict}
 use Rattle.text_rules.specs.Answers.{noOpening, restPlace, filled, scheduleOf, areaOf}
 use Rattle.text_rules.proofs.Granted.{granted-first, header-granted, Granted, granted-is}

@@ -8,7 +8,7 @@ use native.Mathlib.Numerals.{add-one}
 use native.Mathlib.Omega.{arith}
 use lib.Dec.{eqb, ltb}
 use lib.IntN.{ℤ}
-use lib.ListN.{length, getD, set, drop, replicate, length-drop, length-set, length-map, length-replicate}
+use lib.ListN.{length, getD, set, drop, replicate, length-drop, length-set, length-map}
 use lib.Seq.{sets, getD-set-same, getD-set-other, sets-eq}
 use borrow.Author.Tests.{eq-eqb, ne-eqb, eqb-true, ltb-true, ltb-false}
 use Rattle.numbers.specs.Progress.{signed}

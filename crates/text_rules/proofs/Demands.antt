@@ -4,17 +4,15 @@ use mathlib.Core.Bool.{Bool, true, false, cond, not, _&&_, true≢false, false�
 use mathlib.Core.List.{List, [], _∷_}
 use Prim.Native.Nat.{ℕ, suc, _+_, _*_, _≤_, _<_}
 use native.Mathlib.Omega.{arith}
-use lib.Dec.{eqb, leb, ltb}
+use lib.Dec.{leb, ltb}
 use lib.ListN.{length, drop, drop-of-length-le}
 use lib.IntN.{pos}
 use borrow.Author.Tests.{eq-eqb, ne-eqb, leb-true, ltb-true, ltb-false, le-ltb}
 use Rattle.numbers.proofs.Laws.{signed-is}
 use Rattle.numbers.specs.Progress.{signed}
-use Rattle.text_rules.specs.declared.Class.{Class}
-use Rattle.text_rules.specs.declared.Class.the-variants.{LineEnd, Hash, Blank, Digit, Other}
 use Rattle.text_rules.specs.declared.Verdict.{Verdict}
 use Rattle.text_rules.specs.declared.Token.{Token}
-use Rattle.text_rules.specs.Bytes.{isNumeral, isBlank, classOf, isDigit}
+use Rattle.text_rules.specs.Bytes.{Class, LineEnd, Hash, Blank, Digit, Other, classOf, isDigit}
 use Rattle.text_rules.specs.Marks.{Mark, lineEnd, number, wrong, inComment, startsDigit, longer, added, marksFrom, marks}
 use Rattle.text_rules.specs.Digits.{value, tooLarge, numberOf}
 use Rattle.text_rules.specs.Lines.{headLine, fromHead, afterLine, numbersOf}

@@ -8,10 +8,8 @@ use native.Mathlib.Numerals.{add-one}
 use native.Mathlib.Omega.{arith}
 use lib.ListN.{length, getD, drop, length-drop, drop-of-length-le}
 use lib.Seq.{drop-drop, drop-cons}
-use Rattle.text_rules.specs.declared.Class.{Class}
-use Rattle.text_rules.specs.declared.Class.the-variants.{LineEnd, Hash, Blank, Digit, Other}
 use Rattle.text_rules.specs.declared.Token.{Token}
-use Rattle.text_rules.specs.Bytes.{isNumeral, isBlank, classOf}
+use Rattle.text_rules.specs.Bytes.{Class, LineEnd, Hash, Blank, Digit, Other, isNumeral, isBlank, classOf}
 use Rattle.text_rules.specs.Marks.{Mark, lineEnd, number, wrong, inComment, startsDigit, longer, added, marksFrom, marks}
 use Rattle.text_rules.specs.Tokens.{tokenOf, tokenAt}
 

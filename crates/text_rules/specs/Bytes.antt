@@ -2,8 +2,13 @@
 use Prim.Native.Nat.{ℕ}
 use mathlib.Core.Bool.{Bool, true, false, cond, _&&_, _||_}
 use lib.Dec.{eqb, leb}
-use Rattle.text_rules.specs.declared.Class.{Class}
-use Rattle.text_rules.specs.declared.Class.the-variants.{LineEnd, Hash, Blank, Digit, Other}
+
+pub data Class : Type 0 where
+  LineEnd : Class
+  Hash : Class
+  Blank : Class
+  Digit : Class
+  Other : Class
 
 -- the digits 0 to 9 in ASCII
 abbrev pub isNumeral : ℕ → Bool

@@ -3,9 +3,7 @@ use Prim.Native.Nat.{ℕ}
 use mathlib.Core.Bool.{Bool, true, false, cond}
 use mathlib.Core.List.{List, [], _∷_}
 use lib.ListN.{length}
-use Rattle.text_rules.specs.declared.Class.{Class}
-use Rattle.text_rules.specs.declared.Class.the-variants.{LineEnd, Hash, Blank, Digit, Other}
-use Rattle.text_rules.specs.Bytes.{classOf, isDigit}
+use Rattle.text_rules.specs.Bytes.{Class, LineEnd, Hash, Blank, Digit, Other, classOf, isDigit}
 
 -- A mark knows how many bytes of the text come after it, which is its place in the text; a number has its digits, as bytes.
 pub data Mark : Type 0 where

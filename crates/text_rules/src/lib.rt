@@ -1,15 +1,6 @@
-// The schedule's text: the types of its bytes, its tokens and its readers' answers, and their limits. Document 01's rules over them are the
+// The schedule's text: the types of its tokens and its readers' answers, and their limits. Document 01's rules over them are the
 // definitions of specs/; what is claimed of the readers are theorems of this crate.
 use rules::Opening;
-
-// What a byte is in a text.
-pub enum Class {
-    LineEnd,
-    Hash,
-    Blank,
-    Digit,
-    Other,
-}
 
 pub enum Kind {
     End,

@@ -1,13 +1,11 @@
 -- A byte's class, told from the tests that the code makes.
 use Prim.Native.Nat.{ℕ, _≤_}
-use mathlib.Core.Path.{_≡_, refl, sym, _∙_}
+use mathlib.Core.Path.{_≡_, refl}
 use mathlib.Core.Bool.{Bool, true, false, cond, _&&_, _||_, false≢true}
 use native.Mathlib.Omega.{arith}
 use lib.Dec.{eqb, leb}
 use borrow.Author.Tests.{leb-true, eqb-true, ne-eqb}
-use Rattle.text_rules.specs.declared.Class.{Class}
-use Rattle.text_rules.specs.declared.Class.the-variants.{LineEnd, Hash, Blank, Digit, Other}
-use Rattle.text_rules.specs.Bytes.{isNumeral, isBlank, classOf, isDigit}
+use Rattle.text_rules.specs.Bytes.{LineEnd, Hash, Blank, Digit, Other, isNumeral, isBlank, classOf, isDigit}
 
 both : (a b : Bool) → (a && b) ≡ true → (a ≡ true) × (b ≡ true)
 both true b e = (refl, e)

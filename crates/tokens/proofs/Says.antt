@@ -1,6 +1,6 @@
 -- What the byte at a place says, by the tests that the code makes of it: a mark, after which the text goes on, or nothing.
 use mathlib.Core.Path.{_≡_, refl, sym, ap, _∙_}
-use mathlib.Core.Bool.{Bool, true, false, cond, not, true≢false, false≢true}
+use mathlib.Core.Bool.{Bool, true, false, cond, not, false≢true}
 use mathlib.Core.List.{List, [], _∷_}
 use Prim.Native.Nat.{ℕ, suc, _+_, _-_, _≤_, _<_}
 use native.Mathlib.Omega.{arith}
@@ -8,7 +8,7 @@ use lib.Dec.{eqb}
 use lib.ListN.{length, getD, drop, length-drop}
 use lib.Seq.{drop-drop, drop-cons}
 use borrow.Author.Tests.{eqb-true}
-use Rattle.text_rules.specs.Bytes.{isNumeral, isBlank, classOf}
+use Rattle.text_rules.specs.Bytes.{isNumeral, isBlank}
 use Rattle.text_rules.specs.Marks.{Mark, lineEnd, number, wrong, startsDigit, longer, marksFrom, marks}
 use Rattle.text_rules.specs.Digits.{numberOf}
 use Rattle.text_rules.proofs.Marks.{at-byte, passed-over}

@@ -8,7 +8,6 @@ use native.Mathlib.Omega.{arith}
 use lib.IntN.{ℤ, pos}
 use lib.ListN.{length, getD, set, take, drop}
 use lib.Seq.{paste, paste-zero, paste-suc, length-paste}
-use borrow.Author.Needs.{needs}
 use Rattle.numbers.proofs.Signed.{told}
 use Rattle.text.proofs.fill.Statement.{statement}
 use Rattle.text.proofs.fill.Tie as tie

@@ -1,7 +1,6 @@
 -- A number takes its place among the first; past them the store is none.
 use mathlib.Core.Path.{sym}
 use native.Mathlib.Omega.{arith}
-use lib.ListN.{length}
 use lib.Seq.{set-out}
 use borrow.Author.Needs.{needs}
 use Rattle.text.proofs.noted.Statement.{statement}

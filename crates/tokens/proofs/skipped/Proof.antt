@@ -7,7 +7,6 @@ use lib.ListN.{length, drop}
 use borrow.Author.Tests.{ne-eqb}
 use borrow.Author.Needs.{needs}
 use Rattle.text_rules.specs.Marks.{marks}
-use Rattle.tokens.specs.Scan.{commentEnd}
 use Rattle.tokens.proofs.Says.{Silent, silent-blank, silent-comment}
 use Rattle.tokens.proofs.skipped.Statement.{statement}
 use Rattle.tokens.proofs.skipped.Tie as tie

@@ -1,0 +1,2 @@
+-- What the program asks of a scanner.
+pub mod First
