@@ -22,25 +22,26 @@ use Rattle.rules.specs.Limits.{opens, maxCap, maxTeams, maxNodes}
 use Rattle.rules.specs.Nodes.{blank, owned, parted, leftPart}
 use Rattle.rules.specs.States.{stolenOf}
 use Rattle.rules.specs.Requests.{view, alone, changed}
-use Rattle.rules.specs.Table.{InUse, at, nextPair, stolenIn}
+use Rattle.rules.specs.Table.{at, nextPair, stolenIn}
 use Rattle.rules.proofs.Changed.{Changes, keeps, changes}
 use Rattle.rules.specs.Opening.{opening, ledgerOf}
 use Rattle.rules.proofs.Opens.{opened-wf, opened-root}
 use Rattle.rules.proofs.Nodes.{at-next}
 use Rattle.rules.proofs.Sums.{sumBy-zero}
 use Rattle.rules.proofs.Record.{WF, used-high}
-use Rattle.rules.proofs.Spare.{spare}
 use Rattle.rules.proofs.States.{fresh-none, blank-none}
 use Rattle.steps.specs.declared.Team.{Team}
 use Rattle.steps.specs.declared.Turned.{Turned}
-use Rattle.steps.specs.Records.{freshTeam, maxNode, noTeam, isStopped}
+use Rattle.steps.specs.Records.{freshTeam, noTeam, isStopped}
 use Rattle.steps.specs.Step.{slotOf, recordOf, lentCode, lentStep, stepUnless, recordsAfter}
 use Rattle.steps.specs.Turn.{asks, moves, still, turning, turned, carried}
 use Rattle.steps.specs.Run.{Run, stepTeam, runSteps}
 use Rattle.steps.proofs.Fits.{Fit}
 use Rattle.steps.proofs.Runs.{opened-used}
 use Rattle.steps.proofs.Turns.{turn-alone, step-turn, asks-node}
-use Rattle.places.specs.Clipped.{Ready}
+use Rattle.places.specs.Clipped.{Limited}
+use Rattle.teams.specs.Clipped.{clippedTurn, Ready}
+use Rattle.teams.proofs.Laws.{in-limits, unclipped-turn}
 use Rattle.listing_rules.specs.Steps.{runWith, runFrom, stepLine, noteOf, notes}
 use Rattle.nodes.specs.Makers.{heldAdvanced, heldMarked, heldRight}
 use Rattle.ledger.specs.Table.{slotFor, nodeFor, viewBy}
@@ -49,33 +50,16 @@ use Rattle.listing_rules.proofs.Runs.{Begun, Here, here}
 
 -- the limits that a step's code counts on
 module _ (l : Ledger) (w : WF l) (number : ℕ) (r : Team) (cap : ℕ) (fit : Fit cap (l .used) r) where
-  pub ready : number ≤ l .teams → cap ≤ maxCap → Ready number r (alone (view l (r .node)))
-  unfolding view
+  ready : number ≤ l .teams → cap ≤ maxCap → Ready number r (alone (view l (r .node)))
   ready high small =
+      let limited : Limited number r =
       record {
-        limited =
-            record {
-              number-high = omega (arith, w .limits .teams-high);
-              node-high = omega (arith, fit .high, used-high l w);
-              size-high = omega (arith, fit .most);
-            };
-        left-high = go (decLe (r .node) (l .used));
-        pair-high = omega (arith, spare l w .next, used-high l w);
-      }
-    where
-      x : Node
-      x = at l (r .node)
-
-      used : r .node ≤ l .used → InUse l (r .node)
-      used h = record { low = fit .low; high = h }
-
-      child : r .node ≤ l .used → Dec (0 < x .left) → x .left ≤ maxNode
-      child h (yes k) = omega (arith, w .pair (r .node) (used h) k .inside, used-high l w)
-      child h (no k) = omega arith
-
-      go : Dec (r .node ≤ l .used) → x .left ≤ maxNode
-      go (yes h) = child h (decLe 1 (x .left))
-      go (no h) = rw (w .blank (r .node) (omega arith)) (omega arith)
+        number-high = omega (arith, w .limits .teams-high);
+        node-high = omega (arith, fit .high, used-high l w);
+        size-high = omega (arith, fit .most);
+      } in
+      let seen = in-limits l w number r (r .node) limited in
+      record { limited = limited; left-high = seen .left-high; pair-high = seen .pair-high }
 
 -- ---- a turn of a team
 
@@ -196,7 +180,7 @@ module _ {o : Opening} {cap : ℕ} {u : Run} (b : Begun o cap u) (s : List ℤ) 
       → x ≡ nodeFor (getD rs slot noTeam .node) (getD (l .nodes) place blank)
       → v ≡ viewBy (l .teams) (l .room) (l .used) stolen pair x
       → k ≡ natOf number
-      → (Ready k (getD rs slot noTeam) v → t ≡ turned k cap (getD rs slot noTeam) v)
+      → t ≡ clippedTurn k cap (getD rs slot noTeam) v
       → t ≡ taken
   taken-is slot place stolen pair k x v t es ep ec eq ex ev ek et =
       let w = stand .wf in
@@ -207,7 +191,7 @@ module _ {o : Opening} {cap : ℕ} {u : Run} (b : Begun o cap u) (s : List ℤ) 
       let seen : v ≡ alone (view l n) = ev ∙ view-is l n stolen pair x ec eq node in
       let good : Ready k (getD rs slot noTeam) v =
       rw (ek, es, seen) (ready l w (natOf number) r cap (stand .fits number mine) (omega (arith, h .high, stand .teams-are)) (stand .small)) in
-      et good ∙ rw (ek, es, seen) (turn-alone (natOf number) cap (recordOf rs number) (view l (recordOf rs number .node)))
+      et ∙ unclipped-turn _ _ _ _ good ∙ rw (ek, es, seen) (turn-alone (natOf number) cap (recordOf rs number) (view l (recordOf rs number .node)))
 
   pub arms : (slot place stolen : ℕ) (t : Turned)
       → slot ≡ slotOf number

@@ -21,11 +21,11 @@ use rules::Opening;
 use steps::Place;
 use steps::Team;
 
-fn fresh_teams() -> [Team; 32]
+fn fresh_teams() -> [Team; Team::RECORDS]
     ensures { λ r. ⌜ r ≡ replicate 32 freshTeam ⌝ }
 {
     let t = Team::fresh();
-    [t; 32]
+    [t; Team::RECORDS]
 }
 
 fn team_slot(number: i32) -> usize
@@ -50,7 +50,7 @@ fn stopped_one(t: Team) -> u32
     }
 }
 
-fn stopped_in(teams: [Team; 32], count: u32) -> u32
+fn stopped_in(teams: [Team; Team::RECORDS], count: u32) -> u32
     requires { ⌜ count ≤ 32 ⌝ }
     ensures { λ r. ⌜ r ≡ stoppedTo teams count ⌝ }
 {
@@ -66,7 +66,7 @@ fn stopped_in(teams: [Team; 32], count: u32) -> u32
 }
 
 // The left line, after the last step.
-fn last(out: &mut [u8], at: usize, book: Ledger, teams: [Team; 32]) -> usize
+fn last(out: &mut [u8], at: usize, book: Ledger, teams: [Team; Team::RECORDS]) -> usize
     requires { ⌜ (at + length (text (lastLine (runWith book teams))) ≤ length (now out)) × (wellFormed book ≡ true) × (book .teams ≤ 32) ⌝ }
     ensures { λ r. ⌜ Put (now (out .entry)) at (text (lastLine (runWith book teams))) r (now (out .exit)) ⌝ }
 {

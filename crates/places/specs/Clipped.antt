@@ -7,7 +7,6 @@ use Rattle.numbers.specs.Fields.{natOf}
 use Rattle.numbers.specs.Progress.{signed}
 use Rattle.rules.specs.declared.Request.{Request}
 use Rattle.rules.specs.declared.Answer.{Answer}
-use Rattle.rules.specs.declared.View.{View}
 use Rattle.rules.specs.Asks.{request}
 use Rattle.rules.specs.Limits.{maxTeams, maxCap}
 use Rattle.steps.specs.declared.Team.{Team}
@@ -49,12 +48,6 @@ pub record Limited (number : ℕ) (r : Team) : Type 0 where
   pub number-high : number ≤ maxTeams
   pub node-high : r .node ≤ maxNode
   pub size-high : r .size ≤ maxCap
-
--- and what the team looks at, in a well-formed ledger
-pub record Ready (number : ℕ) (r : Team) (v : View) : Type 0 where
-  pub limited : Limited number r
-  pub left-high : v .node .left ≤ maxNode
-  pub pair-high : v .pair ≤ maxNode
 
 abbrev pub UnclippedAsks : Type 0
 UnclippedAsks = (number : ℕ) (r : Team) → Limited number r → clippedAsks number r ≡ asks number r

@@ -1,12 +1,12 @@
 -- Each place's step leaves every node looked after.
 use mathlib.Core.Path.{_≡_, refl, ap, _∙_}
 use mathlib.Core.Logic.{_≢_}
-use mathlib.Core.Bool.{Bool, true, false, cond}
+use mathlib.Core.Bool.{true}
 use Prim.Native.Nat.{ℕ, _≤_, _<_}
 use native.Mathlib.Omega.{arith}
-use lib.Dec.{eqb}
+use native.Mathlib.Decide.{ℕ-discrete}
 use lib.IntN.{ℤ, pos, negsuc}
-use borrow.Author.Tests.{eqb-true, eq-eqb, ne-eqb}
+use borrow.Author.Tests.{eq-eqb, ne-eqb}
 use Rattle.rules.specs.declared.Node.{Node}
 use Rattle.rules.specs.declared.Ledger.{Ledger}
 use Rattle.rules.specs.declared.Request.{Request}
@@ -24,8 +24,8 @@ use Rattle.rules.proofs.States.{never, is-owned, is-expanded, owned-is, stolen-
 use Rattle.steps.specs.declared.Side.{Side}
 use Rattle.steps.specs.declared.Side.the-variants.{Left, Right}
 use Rattle.steps.specs.declared.Team.{Team}
-use Rattle.steps.specs.Records.{sized, split, work, childOn}
-use Rattle.steps.specs.Places.{again, grownSize, takeMoves, workMoves, claimMoves, splitMoves}
+use Rattle.steps.specs.Records.{childOn}
+use Rattle.steps.specs.Places.{takeMoves, workMoves, claimMoves, splitMoves}
 use Rattle.steps.proofs.Stages.{Stage, hunt, taking, busy, parting, stageOf, child, Heads, works, parts, takes, Open, unmade, untaken, All, Moved, Duty, duty-same, duty-hunt, duty-taking, duty-busy, duty-parting}
 use Rattle.steps.proofs.Changes.{Older, all-keep, all-put, older-put, tended-shut, all-split, older-split}
 use Rattle.steps.proofs.Asked.{Takes, Claims, Marks, Splits, Unsplit, by-own, by-advance, by-mark, by-expand, by-look}
@@ -106,8 +106,8 @@ module _ (l : Ledger) (w : WF l) (t : ℕ) (tl : 1 ≤ t) (th : t ≤ l .teams) 
           }
 
       lost : (c : ℕ) → c ≢ 0 → (InUse l n → stateOf (at l n) ≢ AVAILABLE)
-          → Fair l t (taking n) l (stageOf (cond (eqb c 0) (work (sized r 1) n) (again r)))
-      lost c ne gone = rw (ne-eqb c 0 ne) (fair-keep (taking n) hunt (λ m v. duty-taking l t m hunt n (λ d h f. gone (rw f (is-child l w m v h d)))))
+          → Fair l t (taking n) l (stageOf (takeMoves r (refusing (view l n) c)))
+      lost c ne gone = rw (ne-eqb c 0 ne) (fair-keep (taking n) _ (λ m v. duty-taking l t m _ n (λ d h f. gone (rw f (is-child l w m v h d)))))
 
   -- afterwards the node is not AVAILABLE
   pub taken : (n : ℕ) → InUse l n → stateOf (at (requested l (own t n) .ledger) n) ≢ AVAILABLE
@@ -175,12 +175,12 @@ module _ (l : Ledger) (w : WF l) (t : ℕ) (tl : 1 ≤ t) (th : t ≤ l .teams) 
           clash m z = let p = is-owned (at l n) z .plain in never (cc)
 
       lost : (c : ℕ) → c ≢ 0 → (c ≡ 9 → InUse l n → marked (at l n) ≡ true)
-          → Fair l t (busy n) l (stageOf (cond (eqb c 0) (work (sized r (grownSize cap r)) n) (cond (eqb c 9) (split r n Left) (work r n))))
-      lost c ne told = rw (ne-eqb c 0 ne) (by-nine (eqb c 9) refl)
+          → Fair l t (busy n) l (stageOf (claimMoves cap r (refusing (view l n) c)))
+      lost c ne told = go (ℕ-discrete c 9)
         where
-          by-nine : (b : Bool) → eqb c 9 ≡ b → Fair l t (busy n) l (stageOf (cond b (split r n Left) (work r n)))
-          by-nine true e = fair-keep (busy n) (parting n Left) (marked-now c (eqb-true c 9 e) told)
-          by-nine false e = fair-keep (busy n) (busy n) (λ m v. duty-same l t m (busy n) (busy n) refl)
+          go : Dec (c ≡ 9) → Fair l t (busy n) l (stageOf (claimMoves cap r (refusing (view l n) c)))
+          go (yes e) = rw e (fair-keep (busy n) _ (marked-now c e told))
+          go (no e) = rw (ne-eqb c 0 ne, ne-eqb c 9 e) (fair-keep (busy n) _ (λ m v. duty-same l t m (busy n) _ refl))
 
   -- ---- split
 

@@ -25,7 +25,7 @@ use Rattle.rules.specs.Refusals.{allTests, ownTests, advanceTests, markTests, e
 use Rattle.rules.specs.Requests.{refused, refusing, outcome, owning, advancing, marking, expanding, looking, granted, decided, view, nodeIn, answered, requested}
 use Rattle.rules.specs.Table.{at}
 use Rattle.rules.specs.Tests.{Test, first}
-use Rattle.rules.specs.WellFormed.{wellFormed, Sized, Sound}
+use Rattle.rules.specs.WellFormed.{wellFormed, Sized}
 use Rattle.rules.proofs.Keeps.{requested-wf}
 use Rattle.rules.proofs.Record.{WF, rules, both-sound, used-high}
 use Rattle.rules.proofs.Spare.{spare}
@@ -35,9 +35,9 @@ use Rattle.steps.specs.declared.Stepped.{Stepped}
 use Rattle.steps.specs.Records.{maxNode, isStopped}
 use Rattle.steps.specs.Step.{unmoved, stepFrom, stepAt, unfit, laterTests, soloCode, stepUnless, soloStep}
 use Rattle.steps.specs.Turn.{asks, still, turned}
-use Rattle.places.specs.Clipped.{clippedAsks, clippedMoves, Limited, Ready}
+use Rattle.places.specs.Clipped.{clippedAsks, clippedMoves, Limited}
 use Rattle.places.proofs.Laws.{unclipped-asks, unclipped-moves}
-use Rattle.teams.specs.Clipped.{heard, withLedger, clippedStep}
+use Rattle.teams.specs.Clipped.{heard, withLedger, clippedTurn, clippedStep, Ready, UnclippedTurn}
 
 -- ---- the limits of what a team sees
 
@@ -63,10 +63,7 @@ left-small v q k node pair = refused-or (eqb (refusal v q) 0)
         late true = node
         late false = omega arith
 
-module _ (l : Ledger) (s : Sound l) where
-  w : WF l
-  w = rules l s
-
+module _ (l : Ledger) (w : WF l) where
   child-small : (n : ℕ) → 1 ≤ n → at l n .left ≤ maxNode
   child-small n low = go (decLe n (l .used)) (decLt 0 (at l n .left))
     where
@@ -86,9 +83,9 @@ module _ (l : Ledger) (s : Sound l) where
       go (no h) = let z : n ≡ 0 = omega arith in rw (z, zeroth) (child-small 1 (omega arith))
 
   -- a well-formed ledger shows a team nothing past the limits
-  pub ready : (number : ℕ) (r : Team) (n : ℕ) → Limited number r → Ready number r (view l n)
+  pub in-limits : (number : ℕ) (r : Team) (n : ℕ) → Limited number r → Ready number r (view l n)
   unfolding view
-  ready number r n limited =
+  in-limits number r n limited =
       record {
         limited = limited;
         left-high = any-child-small n;
@@ -159,24 +156,27 @@ pub ask-made : (number cap : ℕ) (l : Ledger) (r : Team) {q : Request} {d : Ans
 unfolding clippedStep
 ask-made number cap l r {q} {d} b asked done e is = is ∙ rw (← asked, ← done, e)
 
--- ---- a turn, where the limits hold
+-- ---- a turn
 
 module _ (number cap : ℕ) (r : Team) (v : View) where
-  pub turn-rests : isStopped (r .place) ≡ true → turned number cap r v ≡ still r
-  unfolding turned
+  pub turn-rests : isStopped (r .place) ≡ true → still r ≡ clippedTurn number cap r v
+  unfolding clippedTurn
   turn-rests e = rw e
 
   pub turn-made : {q : Request} {o : Outcome}
-      → Ready number r v
       → isStopped (r .place) ≡ false
       → q ≡ clippedAsks number r
       → o ≡ decided v q
-      → heard number cap r q (o .answer) (o .change) ≡ turned number cap r v
-  unfolding heard turned
-  turn-made {q} {o} ready going asked done =
-      let small : o .answer .left ≤ maxNode = rw done (left-small v q maxNode (ready .left-high) (ready .pair-high)) in
-      let q-is : q ≡ asks number r = asked ∙ unclipped-asks number r (ready .limited) in
-      rw (going, unclipped-moves number cap r (o .answer) (ready .limited .node-high) small, done, q-is)
+      → heard number cap r q (o .answer) (o .change) ≡ clippedTurn number cap r v
+  unfolding clippedTurn
+  turn-made going asked done = rw (going, done, asked)
+
+pub unclipped-turn : UnclippedTurn
+unfolding clippedTurn turned heard
+unclipped-turn number cap r v ready =
+    let q = asks number r in
+    let small : decided v q .answer .left ≤ maxNode = left-small v q maxNode (ready .left-high) (ready .pair-high) in
+    rw (unclipped-asks number r (ready .limited), unclipped-moves number cap r (decided v q .answer) (ready .limited .node-high) small)
 
 -- ---- the tests passed
 
@@ -251,4 +251,4 @@ module _ (l : Ledger) (number cap : ℤ) (r : Team) where
         go true e =
             let sound = both-sound sized e in
             let one : requested l q .answer .code ≢ 1 = rw (requested-wf l q (rules l sound)) (not-one (view l (nodeIn q)) q) in
-            rw (e, passes, ne-eqb _ 1 one) (made (limits e) (answer-small l sound q))
+            rw (e, passes, ne-eqb _ 1 one) (made (limits e) (answer-small l (rules l sound) q))

@@ -2,9 +2,8 @@
 ghost use mathlib.Core.Path.{_≡_};
 ghost use Rattle.rules.specs.Tests.{first};
 ghost use Rattle.steps.specs.Step.{unfit, laterTests, unmoved, soloStep};
-ghost use Rattle.steps.specs.Turn.{still, turned};
-ghost use Rattle.places.specs.Clipped.{Ready};
-ghost use Rattle.teams.specs.Clipped.{heard, clippedStep};
+ghost use Rattle.steps.specs.Turn.{still};
+ghost use Rattle.teams.specs.Clipped.{heard, clippedTurn, clippedStep};
 use rules::Answer;
 use rules::Change;
 use rules::Ledger;
@@ -117,9 +116,9 @@ fn still_turn(t: Team) -> Turned
 }
 
 // The step without its ledger, by the one node that its request names: for a run that holds the ledger itself, and knows that it is well
-// formed and the record within its limits. It is no public call.
+// formed and the record within its limits.
 pub fn turn(number: u32, cap: u32, t: Team, v: View) -> Turned
-    ensures { λ r. ⌜ (Ready number t v → r ≡ turned number cap t v) ⌝ }
+    ensures { λ r. ⌜ r ≡ clippedTurn number cap t v ⌝ }
 {
     let place = t.place;
     if places::has_stopped(place) {

@@ -8,8 +8,8 @@ pub turn-spec : {M : Type 1} → statement M
 turn-spec = tie.close (tie.spec
     (λ c κs. tt)
     (λ c κs. tt)
-    (λ c. λ k. c .still-turn .ensures ∙ sym (turn-rests _ _ _ _ (sym (c .before .before .has-stopped .ensures) ∙ c .before .if1 .taken)))
+    (λ c. c .still-turn .ensures ∙ turn-rests _ _ _ _ (sym (c .before .before .has-stopped .ensures) ∙ c .before .if1 .taken))
     (λ c κs. tt)
     (λ c κs. tt)
     (λ c κs. tt)
-    (λ c. λ k. c .hear .ensures ∙ turn-made _ _ _ _ k (sym (c .before .before .before .before .before .has-stopped .ensures) ∙ c .before .before .before .before .if1 .left) (c .before .before .before .asks-of .ensures) (c .before .before .decide .ensures)))
+    (λ c. c .hear .ensures ∙ turn-made _ _ _ _ (sym (c .before .before .before .before .before .has-stopped .ensures) ∙ c .before .before .before .before .if1 .left) (c .before .before .before .asks-of .ensures) (c .before .before .decide .ensures)))
