@@ -6,7 +6,7 @@ use Prim.Native.Nat.{ℕ, _≤_, _<_}
 use native.Mathlib.Omega.{arith}
 use borrow.Author.Tests.{lt-ltb, le-ltb, ltb-true, ltb-false, ne-eqb}
 use lib.Dec.{ltb}
-use lib.ListN.{length, drop, length-append, length-drop}
+use lib.ListN.{length, drop}
 use lib.Seq.{drop-append-seam}
 use Rattle.line_rules.specs.declared.Written.{Written}
 use Rattle.line_rules.specs.Line.{Part, wordOf, partsOf, whole, anyNegative}
@@ -63,17 +63,6 @@ module _ (w : List ℕ) (ps : List Part) (area : List ℕ) where
       go true b e f = told (ends-negative e) (bad 25)
       go false true e f = told (ends-short e (ltb-true _ _ f)) (bad 28)
       go false false e f = let h = ltb-false (length area) (length (whole w ps)) f in told (ends-written e h) (good h)
-
-  -- a line stays within its area, and the area keeps its length
-  pub answer-within : answerTo w ps (length area) .length ≤ length area
-  answer-within = by-ways (λ r later. r .length ≤ length area) (λ code. omega arith) (λ h. h)
-
-  pub after-length : length (areaAfter w ps area) ≡ length area
-  after-length =
-      by-ways
-      (λ r later. length later ≡ length area)
-      (λ code. refl)
-      (λ h. rw length-append (omega (arith, length-drop (length (whole w ps)) area)))
 
   after-stays : drop (answerTo w ps (length area) .length) (areaAfter w ps area) ≡ drop (answerTo w ps (length area) .length) area
   after-stays =

@@ -32,13 +32,19 @@ enough (suc k) (suc m) n h g =
     (λ i. digits m i)
     (λ e. enough k m (n / 10) (below n k e h) (below n m e g))
 
+few : (n : ℕ) → n < 10 → oneDigit n ≡ true
+few n h = lt-ltb n 10 h
+
+many : (n : ℕ) → 10 ≤ n → oneDigit n ≡ false
+many n h = le-ltb n 10 h
+
 pub decimal-last : (n : ℕ) → n < 10 → decimal n ≡ digit n ∷ []
 unfolding decimal digits spell
-decimal-last n h = simp (lt-ltb n 10 h)
+decimal-last n h = simp (few n h)
 
 digits-more : (k n : ℕ) → 10 ≤ n → digits (suc k) n ≡ digits k (n / 10) ++ (digit (n % 10) ∷ [])
 unfolding digits spell
-digits-more k n h = simp (le-ltb n 10 h)
+digits-more k n h = simp (many n h)
 
 pub decimal-more : (n : ℕ) → 10 ≤ n → decimal n ≡ decimal (n / 10) ++ (digit (n % 10) ∷ [])
 unfolding decimal

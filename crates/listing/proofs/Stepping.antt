@@ -7,7 +7,7 @@ use native.Mathlib.Omega.{arith}
 use native.Mathlib.Decide.{decLe}
 use lib.IntN.{ℤ, pos}
 use lib.ListN.{length, getD, set, take, replicate}
-use lib.Seq.{take-suc}
+use lib.Seq.{take-suc, set-getD}
 use native.Mathlib.Numerals.{add-one}
 use Rattle.numbers.specs.Fields.{natOf, within}
 use Rattle.numbers.proofs.Laws.{within-true}
@@ -170,6 +170,16 @@ module _ {o : Opening} {cap : ℕ} {u : Run} (b : Begun o cap u) (s : List ℤ) 
 
   pub next-notes : notes (pos cap) u (take i s) ++ noteOf number (taken .kind) (taken .node) (taken .answer) ≡ notes (pos cap) u (take (i + 1) s)
   next-notes = rw (notes-more (pos cap) u s i less, ← inv, note-is cap l (stand .wf) rs number (stand .passes number mine))
+
+  -- a team that has stopped stays, and has no line
+  pub rests : isStopped (recordOf rs number .place) ≡ true
+      → (runWith l rs ≡ runFrom (pos cap) u (take (i + 1) s)) × (notes (pos cap) u (take (i + 1) s) ≡ notes (pos cap) u (take i s))
+  unfolding turned changed noteOf
+  rests e =
+      let still-is : taken ≡ still (recordOf rs number) = rw e in (
+        ap (λ (ts : List Team). runWith l ts) (sym (set-getD rs (slotOf number) noTeam)) ∙ rw still-is at next-run,
+        sym (rw (still-is, append-nil) at next-notes),
+      )
 
   -- the turn that the code takes is the step's
   pub taken-is : (slot place stolen pair k : ℕ) (x : Node) (v : View) (t : Turned)

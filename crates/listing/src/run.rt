@@ -92,6 +92,11 @@ pub(crate) fn run(schedule: &[i32], count: usize, o: Opening, out: &mut [u8]) ->
         i += 1;
         let slot = team_slot(number);
         let team = teams[slot];
+        let stands = team.place;
+        // A stopped team makes no request and stays.
+        if places::has_stopped(stands) {
+            continue;
+        }
         let place = table::slot_for(team.node);
         let standing = book.nodes[place];
         let node = table::node_for(team.node, standing);

@@ -1,7 +1,7 @@
 -- The loop holds a ledger and records that are those of the run so far, and has written its lines so far. The places of a step are counted once, below.
 use borrow.Author.Needs.{needs}
 use native.Mathlib.Omega.{arith}
-use mathlib.Core.Path.{_≡_, refl, _∙_}
+use mathlib.Core.Path.{_≡_, refl, _∙_, sym}
 use mathlib.Core.Bool.{true}
 use mathlib.Core.List.{List}
 use Prim.Native.Nat.{ℕ, _+_, _-_, _≤_, _<_}
@@ -21,7 +21,7 @@ use Rattle.lines.specs.Area.{Put}
 use Rattle.lines.proofs.Area.{put-nothing}
 use Rattle.listing_rules.specs.Listing.{bytesOf}
 use Rattle.listing_rules.proofs.Runs.{Begun, Here, here}
-use Rattle.listing.proofs.Stepping.{begun-with, none-stolen, seat-inside, taken, taken-is, Arms, arms}
+use Rattle.listing.proofs.Stepping.{begun-with, none-stolen, seat-inside, taken, taken-is, Arms, arms, rests}
 use Rattle.listing.proofs.Writing.{head-room, note-room, note-put, last-room, last-put}
 use Rattle.listing.proofs.run.run.Statement.{statement}
 use Rattle.listing.proofs.run.run.Tie as tie
@@ -131,7 +131,7 @@ abbrev placed : Turned-here → tie.After-slot-for Inv-loop μ-loop
 placed c = viewed c .before .before .before
 
 abbrev seated : Turned-here → Seated-here
-seated c = placed c .before .before
+seated c = placed c .before .before .before .before
 
 abbrev read : Turned-here → Read-here
 read c = seated c .before
@@ -267,6 +267,39 @@ mul-team c = let h = seat c in search needs
 array-copy-out-team : tie.Need-array-copy-out-team Inv-loop μ-loop
 array-copy-out-team c = seat c
 
+has-stopped-requires : tie.Need-has-stopped-requires Inv-loop μ-loop
+has-stopped-requires c κs = search needs
+
+-- a team that has stopped stays, and has no line
+abbrev Stopped-here : Type 0
+Stopped-here = tie.Then1 Inv-loop μ-loop
+
+abbrev stepping : Stopped-here → Seated-here
+stepping c = c .before .before .before
+
+stays : (c : Stopped-here)
+    → let n = stepping c .before in
+    let u = first (ready (looped n .before)) in
+    let k = pos (capped (ready (looped n .before))) in
+    let l = looped n .loop in
+    (runWith (l .book) (l .teams) ≡ runFrom k u (take (l .i + 1) (schedule n)))
+    × (notes k u (take (l .i + 1) (schedule n)) ≡ notes k u (take (l .i) (schedule n)))
+stays c =
+    let n = stepping c .before in
+    let l = looped n .loop in
+    let e = rw (slot-is (stepping c)) at (sym (c .before .has-stopped .ensures) ∙ c .if1 .taken) in
+    rests (begun (looped n)) (schedule n) (l .i) (less n) (l .book) (l .teams) (l .inv .3) (mine n) e
+
+loop-less : tie.Need-loop-less Inv-loop μ-loop
+loop-less c = omega (arith, more (stepping c .before))
+
+loop-again : tie.Need-loop-again Inv-loop μ-loop
+loop-again c =
+    let n = stepping c .before in
+    let l = looped n .loop in
+    let r = stays c in
+    (omega (arith, more n), l .inv .1, l .inv .2, r .0, rw (r .1) (l .inv .4))
+
 slot-for-requires : tie.Need-slot-for-requires Inv-loop μ-loop
 slot-for-requires c κs = search needs
 
@@ -280,7 +313,7 @@ node-for-requires : tie.Need-node-for-requires Inv-loop μ-loop
 node-for-requires c κs = search needs
 
 add-view-by : tie.Need-add-view-by Inv-loop μ-loop
-add-view-by c = let w = stands (looped (c .before .before .before .before .before)) .wf in omega (arith, w .used-room, w .limits .room-high)
+add-view-by c = let w = stands (looped (c .before .before .before .before .before .before .before)) .wf in omega (arith, w .used-room, w .limits .room-high)
 
 view-by-requires : tie.Need-view-by-requires Inv-loop μ-loop
 view-by-requires c κs = search needs
@@ -303,11 +336,11 @@ array-set-from-teams c = seat (seated (called c))
 enum-told : tie.Need-enum-told Inv-loop μ-loop
 enum-told c = search needs
 
-loop-less : tie.Need-loop-less Inv-loop μ-loop
-loop-less c = omega (arith, more (read (called (c .before .before))))
+loop-less-2 : tie.Need-loop-less-2 Inv-loop μ-loop
+loop-less-2 c = omega (arith, more (read (called (c .before .before))))
 
-loop-again : tie.Need-loop-again Inv-loop μ-loop
-loop-again c = let m = c .before .before in let p = writes m in let f = stores (called m) .keep (c .enum-told .given .1) in (p .0, p .1, f .count, f .run, p .2)
+loop-again-2 : tie.Need-loop-again-2 Inv-loop μ-loop
+loop-again-2 c = let m = c .before .before in let p = writes m in let f = stores (called m) .keep (c .enum-told .given .1) in (p .0, p .1, f .count, f .run, p .2)
 
 enum-known-change : tie.Need-enum-known-change Inv-loop μ-loop
 enum-known-change c = search needs
@@ -318,11 +351,11 @@ mul-book c = let h = place-inside (called (c .before .before .before)) in search
 way-write-given-book : tie.Need-way-write-given-book Inv-loop μ-loop
 way-write-given-book c = (place-inside (called (c .before .before .before)), tt)
 
-loop-less-2 : tie.Need-loop-less-2 Inv-loop μ-loop
-loop-less-2 c = omega (arith, more (read (called (c .before .before .before .before))))
+loop-less-3 : tie.Need-loop-less-3 Inv-loop μ-loop
+loop-less-3 c = omega (arith, more (read (called (c .before .before .before .before))))
 
-loop-again-2 : tie.Need-loop-again-2 Inv-loop μ-loop
-loop-again-2 c = let m = c .before .before .before .before in let p = writes m in let f = stores (called m) .own _ (c .before .before .change .given .1) in (p .0, p .1, f .count, f .run, p .2)
+loop-again-3 : tie.Need-loop-again-3 Inv-loop μ-loop
+loop-again-3 c = let m = c .before .before .before .before in let p = writes m in let f = stores (called m) .own _ (c .before .before .change .given .1) in (p .0, p .1, f .count, f .run, p .2)
 
 enum-known-change-2 : tie.Need-enum-known-change-2 Inv-loop μ-loop
 enum-known-change-2 c = search needs
@@ -336,11 +369,11 @@ mul-x c = let h = place-inside (called (c .before .before .before .before)) in s
 element-set-from-x : tie.Need-element-set-from-x Inv-loop μ-loop
 element-set-from-x c = place-inside (called (c .before .before .before .before))
 
-loop-less-3 : tie.Need-loop-less-3 Inv-loop μ-loop
-loop-less-3 c = omega (arith, more (read (called (c .before .before .before .before))))
+loop-less-4 : tie.Need-loop-less-4 Inv-loop μ-loop
+loop-less-4 c = omega (arith, more (read (called (c .before .before .before .before))))
 
-loop-again-3 : tie.Need-loop-again-3 Inv-loop μ-loop
-loop-again-3 c = let m = c .before .before .before .before in let p = writes m in let f = stores (called m) .advance _ (c .before .before .change2 .given .1) in (p .0, p .1, rw (c .advanced-to .ensures) (f .count), rw (c .advanced-to .ensures) (f .run), p .2)
+loop-again-4 : tie.Need-loop-again-4 Inv-loop μ-loop
+loop-again-4 c = let m = c .before .before .before .before in let p = writes m in let f = stores (called m) .advance _ (c .before .before .change2 .given .1) in (p .0, p .1, rw (c .advanced-to .ensures) (f .count), rw (c .advanced-to .ensures) (f .run), p .2)
 
 enum-known-change-3 : tie.Need-enum-known-change-3 Inv-loop μ-loop
 enum-known-change-3 c = search needs
@@ -357,11 +390,11 @@ mul-x-2 c = let h = place-inside (called (c .before .before .before .before)) in
 element-set-from-x-2 : tie.Need-element-set-from-x-2 Inv-loop μ-loop
 element-set-from-x-2 c = place-inside (called (c .before .before .before .before))
 
-loop-less-4 : tie.Need-loop-less-4 Inv-loop μ-loop
-loop-less-4 c = omega (arith, more (read (called (c .before .before .before .before))))
+loop-less-5 : tie.Need-loop-less-5 Inv-loop μ-loop
+loop-less-5 c = omega (arith, more (read (called (c .before .before .before .before))))
 
-loop-again-4 : tie.Need-loop-again-4 Inv-loop μ-loop
-loop-again-4 c = let m = c .before .before .before .before in let p = writes m in let f = stores (called m) .mark _ (c .before .before .change3 .given .1) in (p .0, p .1, rw (c .marked-at .ensures) (f .count), rw (c .marked-at .ensures) (f .run), p .2)
+loop-again-5 : tie.Need-loop-again-5 Inv-loop μ-loop
+loop-again-5 c = let m = c .before .before .before .before in let p = writes m in let f = stores (called m) .mark _ (c .before .before .change3 .given .1) in (p .0, p .1, rw (c .marked-at .ensures) (f .count), rw (c .marked-at .ensures) (f .run), p .2)
 
 enum-known-change-4 : tie.Need-enum-known-change-4 Inv-loop μ-loop
 enum-known-change-4 c = search needs
@@ -405,11 +438,11 @@ element-set-from-right c = let h = pair-of (c .before .before .before .before) i
 add-book : tie.Need-add-book Inv-loop μ-loop
 add-book c = let h = pair-of (c .before .before .before .before) in omega (arith, h .0, h .1)
 
-loop-less-5 : tie.Need-loop-less-5 Inv-loop μ-loop
-loop-less-5 c = omega (arith, more (read (called (from-split (c .before .before .before .before)))))
+loop-less-6 : tie.Need-loop-less-6 Inv-loop μ-loop
+loop-less-6 c = omega (arith, more (read (called (from-split (c .before .before .before .before)))))
 
-loop-again-5 : tie.Need-loop-again-5 Inv-loop μ-loop
-loop-again-5 c = let k = c .before .before .before .before in let m = from-split k in let p = writes m in let f = stores (called m) .split _ (k .before .change4 .given .1) in (p .0, p .1, rw (c .before .before .before .less-by .ensures, c .before .before .left-part .ensures, c .before .right-part .ensures) (f .count), rw (c .before .before .left-part .ensures, c .before .right-part .ensures) (f .run), p .2)
+loop-again-6 : tie.Need-loop-again-6 Inv-loop μ-loop
+loop-again-6 c = let k = c .before .before .before .before in let m = from-split k in let p = writes m in let f = stores (called m) .split _ (k .before .change4 .given .1) in (p .0, p .1, rw (c .before .before .before .less-by .ensures, c .before .before .left-part .ensures, c .before .right-part .ensures) (f .count), rw (c .before .before .left-part .ensures, c .before .right-part .ensures) (f .run), p .2)
 
 -- after the last step
 finished : (a : tie.At-loop Inv-loop μ-loop) → a .loop .i ≡ started (ready (a .before)) .args .count
@@ -460,6 +493,9 @@ run-spec =
     team-slot-requires
     mul-team
     array-copy-out-team
+    has-stopped-requires
+    loop-less
+    loop-again
     slot-for-requires
     mul-standing
     element-copy-out-standing
@@ -472,26 +508,26 @@ run-spec =
     mul-teams
     array-set-from-teams
     enum-told
-    loop-less
-    loop-again
+    loop-less-2
+    loop-again-2
     enum-known-change
     mul-book
     way-write-given-book
-    loop-less-2
-    loop-again-2
+    loop-less-3
+    loop-again-3
     enum-known-change-2
     advanced-to-requires
     mul-x
     element-set-from-x
-    loop-less-3
-    loop-again-3
+    loop-less-4
+    loop-again-4
     enum-known-change-3
     add-stolen
     marked-at-requires
     mul-x-2
     element-set-from-x-2
-    loop-less-4
-    loop-again-4
+    loop-less-5
+    loop-again-5
     enum-known-change-4
     less-by-requires
     left-part-requires
@@ -506,8 +542,8 @@ run-spec =
     mul-right
     element-set-from-right
     add-book
-    loop-less-5
-    loop-again-5
+    loop-less-6
+    loop-again-6
     last-requires
     same-length
     returns)
