@@ -45,15 +45,15 @@ use Rattle.listing_rules.proofs.Short.{stopped-most, last-short, begun-
 -- ---- a text that is granted, and one that is refused
 
 abbrev refusal : ℕ → List ℕ → Line
-refusal room bytes = refusedLine (signed (scheduleOf room bytes .code)) (signed (scheduleOf room bytes .line))
+refusal steps bytes = refusedLine (signed (scheduleOf steps bytes .code)) (signed (scheduleOf steps bytes .line))
 
-pub refused-lines : (room : ℕ) (bytes : List ℕ) → scheduleOf room bytes .code ≢ 0 → linesOf room bytes ≡ refusal room bytes ∷ []
+pub refused-lines : (steps : ℕ) (bytes : List ℕ) → scheduleOf steps bytes .code ≢ 0 → linesOf steps bytes ≡ refusal steps bytes ∷ []
 unfolding linesOf
-refused-lines room bytes bad = rw (ne-eqb (scheduleOf room bytes .code) 0 bad)
+refused-lines steps bytes bad = rw (ne-eqb (scheduleOf steps bytes .code) 0 bad)
 
-pub granted-lines : (room : ℕ) (bytes : List ℕ) → IsGranted room bytes → linesOf room bytes ≡ runLines (opensWith room bytes) (teamsIn bytes)
+pub granted-lines : (steps : ℕ) (bytes : List ℕ) → IsGranted steps bytes → linesOf steps bytes ≡ runLines (opensWith steps bytes) (teamsIn bytes)
 unfolding linesOf
-granted-lines room bytes good = rw good
+granted-lines steps bytes good = rw good
 
 -- ---- the last of some lines
 
@@ -68,15 +68,15 @@ last-is d (x ∷ xs) l = last-is x xs l
 
 -- ---- the run of a text that is granted
 
-module _ (room : ℕ) (bytes : List ℕ) (good : IsGranted room bytes) where
+module _ (steps : ℕ) (bytes : List ℕ) (good : IsGranted steps bytes) where
   abbrev o : Opening
-  o = opensWith room bytes
+  o = opensWith steps bytes
 
   abbrev s : List ℤ
   s = teamsIn bytes
 
-  limits : WithinLimits room bytes
-  limits = granted-within-limits room bytes good
+  limits : WithinLimits steps bytes
+  limits = granted-within-limits steps bytes good
 
   ok : opens o ≡ true
   ok = limits .opening
@@ -101,9 +101,9 @@ module _ (room : ℕ) (bytes : List ℕ) (good : IsGranted room bytes) where
   unfolding opening
   opens-code = rw ok
 
-  printed-batches : claimsIn (linesOf room bytes) ≡ batches (ledgerOf o) (asked (o .cap) (startOf o) s)
+  printed-batches : claimsIn (linesOf steps bytes) ≡ batches (ledgerOf o) (asked (o .cap) (startOf o) s)
   printed-batches =
-      ap claimsIn (granted-lines room bytes good) ∙ claims-of-run o s ∙ tells .told .claims
+      ap claimsIn (granted-lines steps bytes good) ∙ claims-of-run o s ∙ tells .told .claims
 
   -- ---- its lines are short
 
@@ -113,39 +113,39 @@ module _ (room : ℕ) (bytes : List ℕ) (good : IsGranted room bytes) where
   end-here : Here o (natOf (o .cap)) (endOf o s .ledger) (endOf o s .records)
   end-here = here begins s (endOf o s .ledger) (endOf o s .records) (rw cap-is)
 
-  run-short : AllShort (linesOf room bytes)
+  run-short : AllShort (linesOf steps bytes)
   unfolding runLines
   run-short =
-      rw (granted-lines room bytes good)
+      rw (granted-lines steps bytes good)
       (short-append (rw cap-is at (begun-short begins s each-team)) (more (last-short end-here) none))
 
-  few-lines : length (linesOf room bytes) ≤ room + 2
+  few-lines : length (linesOf steps bytes) ≤ steps + 2
   unfolding runLines
   few-lines =
-      rw (granted-lines room bytes good, length-append)
+      rw (granted-lines steps bytes good, length-append)
       (omega (arith, tells .told .few, length-map (scheduleNumbers (marks bytes)) signed, limits .fits))
 
 -- ---- any text
 
-pub refusal-short : (room : ℕ) (bytes : List ℕ) → length (text (refusal room bytes)) ≤ maxLine
+pub refusal-short : (steps : ℕ) (bytes : List ℕ) → length (text (refusal steps bytes)) ≤ maxLine
 unfolding whole spaced
-refusal-short room bytes =
-    let a = decimal-width 9 (natOf (signed (scheduleOf room bytes .code))) (omega arith) in
-    let b = decimal-width 9 (natOf (signed (scheduleOf room bytes .line))) (omega arith) in
+refusal-short steps bytes =
+    let a = decimal-width 9 (natOf (signed (scheduleOf steps bytes .code))) (omega arith) in
+    let b = decimal-width 9 (natOf (signed (scheduleOf steps bytes .line))) (omega arith) in
     simp length-append (omega arith)
 
 -- the lines are short, and there are at most two besides those of the steps
-record Lined (room : ℕ) (ls : List Line) : Type 0 where
+record Lined (steps : ℕ) (ls : List Line) : Type 0 where
   short : AllShort ls
-  few : length ls ≤ room + 2
+  few : length ls ≤ steps + 2
 
-lined : (room : ℕ) (bytes : List ℕ) → Lined room (linesOf room bytes)
-lined room bytes = go (ℕ-discrete (scheduleOf room bytes .code) 0)
+lined : (steps : ℕ) (bytes : List ℕ) → Lined steps (linesOf steps bytes)
+lined steps bytes = go (ℕ-discrete (scheduleOf steps bytes .code) 0)
   where
-    go : Dec (scheduleOf room bytes .code ≡ 0) → Lined room (linesOf room bytes)
-    go (yes good) = record { short = run-short room bytes good; few = few-lines room bytes good }
+    go : Dec (scheduleOf steps bytes .code ≡ 0) → Lined steps (linesOf steps bytes)
+    go (yes good) = record { short = run-short steps bytes good; few = few-lines steps bytes good }
     go (no bad) =
-        rw (refused-lines room bytes bad) (record { short = more (refusal-short room bytes) none; few = omega arith })
+        rw (refused-lines steps bytes bad) (record { short = more (refusal-short steps bytes) none; few = omega arith })
 
 -- ---- the demands
 
@@ -162,36 +162,36 @@ unfolding listingOf linesOf
 comments-never-printed s t r = rw (comments-never-matter s t r .schedule scheduleRoom, same-marks r)
 
 pub prints-what-was-granted : PrintsWhatWasGranted
-prints-what-was-granted room bytes good =
+prints-what-was-granted steps bytes good =
     record {
-      claims = rw (opened-is room bytes good) (printed-batches room bytes good);
-      ledger = rw (opened-is room bytes good) (tells room bytes good .ledger);
+      claims = rw (opened-is steps bytes good) (printed-batches steps bytes good);
+      ledger = rw (opened-is steps bytes good) (tells steps bytes good .ledger);
     }
 
 pub no-sheet-printed-twice : NoSheetPrintedTwice
-no-sheet-printed-twice room bytes sheet good =
+no-sheet-printed-twice steps bytes sheet good =
     rw
-    (prints-what-was-granted room bytes good .claims)
-    (given-once-at-most (opensWith room bytes) (askedBy room bytes) sheet (opens-code room bytes good))
+    (prints-what-was-granted steps bytes good .claims)
+    (given-once-at-most (opensWith steps bytes) (askedBy steps bytes) sheet (opens-code steps bytes good))
 
 pub every-sheet-printed-once : EverySheetPrintedOnce
-every-sheet-printed-once room bytes good =
-    let t = prints-what-was-granted room bytes good in
-    rw (t .ledger, t .claims) (every-sheet-once (opensWith room bytes) (askedBy room bytes) (opens-code room bytes good))
+every-sheet-printed-once steps bytes good =
+    let t = prints-what-was-granted steps bytes good in
+    rw (t .ledger, t .claims) (every-sheet-once (opensWith steps bytes) (askedBy steps bytes) (opens-code steps bytes good))
 
 pub all-stopped-none-left : AllStoppedNoneLeft
 unfolding runLines
-all-stopped-none-left room bytes before count good e =
-    let o = opensWith room bytes in
+all-stopped-none-left steps bytes before count good e =
+    let o = opensWith steps bytes in
     let u = endOf o (teamsIn bytes) in
     let last : lastLine u ≡ leftLine count (o .teams) =
     sym (last-is (lastLine u) (headLine o ∷ notes (o .cap) (startOf o) (teamsIn bytes)) (lastLine u))
-    ∙ ap (lastOf (lastLine u)) (sym (granted-lines room bytes good) ∙ e)
+    ∙ ap (lastOf (lastLine u)) (sym (granted-lines steps bytes good) ∙ e)
     ∙ last-is (lastLine u) before (leftLine count (o .teams)) in
     let stopped : pos (stoppedTeams u) ≡ o .teams = cc in
     let left : count ≡ pos (unclaimed (u .ledger)) = cc in
-    let all : stoppedTeams u ≡ u .ledger .teams = omega (arith, ap natOf stopped, stopped-most (end-here room bytes good), end-here room bytes good .teams-are) in
-    let none : unclaimed (u .ledger) ≡ 0 = nothing-left o _ _ (ok room bytes good) (all-fresh maxTeams (natOf (o .teams)) (opens-facts o (ok room bytes good) .teams .high)) all in
+    let all : stoppedTeams u ≡ u .ledger .teams = omega (arith, ap natOf stopped, stopped-most (end-here steps bytes good), end-here steps bytes good .teams-are) in
+    let none : unclaimed (u .ledger) ≡ 0 = nothing-left o _ _ (ok steps bytes good) (all-fresh maxTeams (natOf (o .teams)) (opens-facts o (ok steps bytes good) .teams .high)) all in
     left ∙ rw none
 
 pub room-is-enough : RoomIsEnough

@@ -44,45 +44,45 @@ CommentsNeverPrinted = (s t : List ℕ) → SameButComments false s t → listin
 -- ---- what was granted, in the run of a text that is not refused, with room for so many schedule numbers
 
 abbrev pub IsGranted : ℕ → List ℕ → Type 0
-IsGranted room bytes = scheduleOf room bytes .code ≡ 0
+IsGranted steps bytes = scheduleOf steps bytes .code ≡ 0
 
 -- the header's numbers, the requests that the run makes, and the ledger after its last step
 abbrev pub opensWith : ℕ → List ℕ → Opening
-opensWith room bytes = scheduleOf room bytes .opening
+opensWith steps bytes = scheduleOf steps bytes .opening
 
 abbrev pub askedBy : ℕ → List ℕ → List Request
-askedBy room bytes = asked (opensWith room bytes .cap) (startOf (opensWith room bytes)) (teamsIn bytes)
+askedBy steps bytes = asked (opensWith steps bytes .cap) (startOf (opensWith steps bytes)) (teamsIn bytes)
 
 abbrev pub lastLedger : ℕ → List ℕ → Ledger
-lastLedger room bytes = endOf (opensWith room bytes) (teamsIn bytes) .ledger
+lastLedger steps bytes = endOf (opensWith steps bytes) (teamsIn bytes) .ledger
 
 -- The batch lines are exactly what those requests were granted, each once and in their order, and the ledger is the one that they reach.
-pub record Tells (room : ℕ) (bytes : List ℕ) : Type 0 where
-  pub claims : claimsIn (linesOf room bytes) ≡ batches (opening (opensWith room bytes) .ledger) (askedBy room bytes)
-  pub ledger : lastLedger room bytes ≡ reached (opensWith room bytes) (askedBy room bytes)
+pub record Tells (steps : ℕ) (bytes : List ℕ) : Type 0 where
+  pub claims : claimsIn (linesOf steps bytes) ≡ batches (opening (opensWith steps bytes) .ledger) (askedBy steps bytes)
+  pub ledger : lastLedger steps bytes ≡ reached (opensWith steps bytes) (askedBy steps bytes)
 
 abbrev pub PrintsWhatWasGranted : Type 0
-PrintsWhatWasGranted = (room : ℕ) (bytes : List ℕ) → IsGranted room bytes → Tells room bytes
+PrintsWhatWasGranted = (steps : ℕ) (bytes : List ℕ) → IsGranted steps bytes → Tells steps bytes
 
 -- So no sheet stands in two batch lines.
 abbrev pub NoSheetPrintedTwice : Type 0
 NoSheetPrintedTwice =
-    (room : ℕ) (bytes : List ℕ) (sheet : ℕ) → IsGranted room bytes → timesIn sheet (claimsIn (linesOf room bytes)) ≤ 1
+    (steps : ℕ) (bytes : List ℕ) (sheet : ℕ) → IsGranted steps bytes → timesIn sheet (claimsIn (linesOf steps bytes)) ≤ 1
 
 -- And what is printed, node by node, with what is unclaimed is every sheet of the range, each exactly once and ascending.
 abbrev pub EverySheetPrintedOnce : Type 0
 EverySheetPrintedOnce =
-    (room : ℕ) (bytes : List ℕ)
-    → IsGranted room bytes
-    → let o = opensWith room bytes in
-    ListsOnly (lastLedger room bytes) (claimsIn (linesOf room bytes)) 1 (sheets (natOf (o .start)) (natOf (o .until)))
+    (steps : ℕ) (bytes : List ℕ)
+    → IsGranted steps bytes
+    → let o = opensWith steps bytes in
+    ListsOnly (lastLedger steps bytes) (claimsIn (linesOf steps bytes)) 1 (sheets (natOf (o .start)) (natOf (o .until)))
 
 -- Where the left line tells that all teams have stopped, it tells that nothing is left.
 abbrev pub AllStoppedNoneLeft : Type 0
 AllStoppedNoneLeft =
-    (room : ℕ) (bytes : List ℕ) (before : List Line) (count : ℤ)
-    → IsGranted room bytes
-    → linesOf room bytes ≡ before ++ (leftLine count (opensWith room bytes .teams) ∷ [])
+    (steps : ℕ) (bytes : List ℕ) (before : List Line) (count : ℤ)
+    → IsGranted steps bytes
+    → linesOf steps bytes ≡ before ++ (leftLine count (opensWith steps bytes .teams) ∷ [])
     → count ≡ pos 0
 
 -- ---- the areas that are lent

@@ -24,7 +24,7 @@ linesBy s schedule =
 
 -- "The whole text is judged before the first step": the lines of a text, with room for so many schedule numbers
 unfoldable pub linesOf : ℕ → List ℕ → List Line
-linesOf room bytes = linesBy (scheduleOf room bytes) (teamsIn bytes)
+linesOf steps bytes = linesBy (scheduleOf steps bytes) (teamsIn bytes)
 
 -- one line after the other
 unfoldable pub bytesOf : List Line → List ℕ
