@@ -1,5 +1,5 @@
 -- A request stores into slots of the table alone, its node's and those of the pair that every STOLEN node has, and within the limits.
-use Prim.Native.Nat.{ℕ, _+_, _≤_}
+use Prim.Native.Nat.{ℕ, _≤_}
 use native.Mathlib.Omega.{arith}
 use Rattle.rules.specs.declared.Ledger.{Ledger}
 use Rattle.rules.specs.declared.Request.{Request}

@@ -9,7 +9,6 @@ use lib.ListN.{getD, set}
 use borrow.Author.Tests.{le-leb, lt-leb}
 use Rattle.rules.specs.declared.Node.{Node}
 use Rattle.rules.specs.declared.Ledger.{Ledger}
-use Rattle.rules.specs.declared.Change.{Change}
 use Rattle.rules.specs.declared.Change.the-variants.{Keep, Own, Advance, Mark, Split}
 use Rattle.rules.specs.Limits.{maxNodes}
 use Rattle.rules.specs.Nodes.{blank, owned, moved, parted, leftPart, rightPart}
@@ -22,7 +21,7 @@ use Rattle.rules.proofs.Expand.{load-next}
 use Rattle.rules.proofs.Nodes.{at-out}
 use Rattle.rules.proofs.Record.{WF, used-high, in-table, no-children}
 use Rattle.rules.proofs.Spare.{spare, pair-room}
-use Rattle.rules.proofs.States.{Stolen, never, stolen-one, owned-same, unmarked-none}
+use Rattle.rules.proofs.States.{Stolen, stolen-one, owned-same, unmarked-none}
 use Rattle.rules.proofs.Store.{stolen-put}
 use Rattle.nodes.specs.Makers.{heldAdvanced, heldMarked, heldRight}
 use Rattle.nodes.proofs.Makers.{advanced-within, marked-within, right-within}

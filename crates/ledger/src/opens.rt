@@ -2,7 +2,7 @@
 ghost use mathlib.Core.Path.{_≡_};
 ghost use mathlib.Core.Bool.{true};
 ghost use lib.ListN.{replicate};
-ghost use Rattle.rules.specs.Limits.{opens};
+ghost use Rattle.rules.specs.Limits.{maxNodes, opens};
 ghost use Rattle.rules.specs.Nodes.{blank};
 ghost use Rattle.rules.specs.Opening.{ledgerOf, closed};
 use rules::Ledger;
@@ -10,7 +10,7 @@ use rules::Node;
 use rules::Opening;
 
 fn blank_table() -> [Node; Opening::NODES]
-    ensures { λ r. ⌜ r ≡ replicate 1023 blank ⌝ }
+    ensures { λ r. ⌜ r ≡ replicate maxNodes blank ⌝ }
 {
     [nodes::blank_node(); Opening::NODES]
 }

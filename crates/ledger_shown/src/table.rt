@@ -11,22 +11,22 @@ fn row(state: u32) {
     print::text(b"moves from");
     print::number(state);
     print::text(b":");
-    print::number(nodes::moves::moves_of(state, Request::OWN));
-    print::number(nodes::moves::moves_of(state, Request::ADVANCE));
-    print::number(nodes::moves::moves_of(state, Request::MARK));
-    print::number(nodes::moves::moves_of(state, Request::EXPAND));
-    print::number(nodes::moves::moves_of(state, Request::LOOK));
+    print::number(nodes::moves::states_after(state, Request::OWN));
+    print::number(nodes::moves::states_after(state, Request::ADVANCE));
+    print::number(nodes::moves::states_after(state, Request::MARK));
+    print::number(nodes::moves::states_after(state, Request::EXPAND));
+    print::number(nodes::moves::states_after(state, Request::LOOK));
     print::text(b"\n");
 }
 
 // What is no state or no kind has no move.
 fn outside() {
     print::text(b"no state, no kind:");
-    print::number(nodes::moves::moves_of(0, 1));
-    print::number(nodes::moves::moves_of(6, 1));
-    print::number(nodes::moves::moves_of(1, 0));
-    print::number(nodes::moves::moves_of(1, 6));
-    print::number(nodes::moves::moves_of(4294967295, 4294967295));
+    print::number(nodes::moves::states_after(0, 1));
+    print::number(nodes::moves::states_after(6, 1));
+    print::number(nodes::moves::states_after(1, 0));
+    print::number(nodes::moves::states_after(1, 6));
+    print::number(nodes::moves::states_after(4294967295, 4294967295));
     print::text(b"\n");
 }
 

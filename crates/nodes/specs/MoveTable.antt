@@ -4,5 +4,5 @@ use mathlib.Core.Bool.{cond, _&&_}
 use lib.Dec.{leb}
 use Rattle.rules.specs.Moves.{lastState, lastMover, leads, asNumber}
 
-unfoldable pub movesOf : ℕ → ℕ → ℕ
-movesOf state kind = cond (leb 1 state && leb state lastState && leb 1 kind && leb kind lastMover) (asNumber (leads state kind)) 0
+unfoldable pub statesAfter : ℕ → ℕ → ℕ
+statesAfter state kind = cond (leb 1 state && leb state lastState && leb 1 kind && leb kind lastMover) (asNumber (leads state kind)) 0

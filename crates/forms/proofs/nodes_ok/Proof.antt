@@ -3,8 +3,8 @@ use borrow.Author.Needs.{needs}
 use native.Mathlib.Omega.{arith}
 use mathlib.Core.Path.{_≡_, ap₂, _∙_}
 use mathlib.Core.Bool.{_&&_}
-use Prim.Native.Nat.{ℕ, _+_, _-_, _≤_, _<_}
-use lib.ListN.{length, take, getD}
+use Prim.Native.Nat.{_-_, _≤_}
+use lib.ListN.{getD}
 use Rattle.rules.specs.Nodes.{blank}
 use Rattle.rules.specs.Table.{at}
 use Rattle.rules.specs.WellFormed.{upTo, nodeRule}

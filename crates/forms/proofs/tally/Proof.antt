@@ -6,7 +6,6 @@ use Prim.Native.Nat.{ℕ, _+_, _-_, _≤_, _<_}
 use lib.ListN.{length, take, getD}
 use lib.Seq.{take-all}
 use Rattle.rules.specs.Limits.{maxNodes}
-use Rattle.rules.specs.Nodes.{blank}
 use Rattle.rules.specs.Table.{sumBy}
 use Rattle.rules.specs.WellFormed.{leftIs}
 use Rattle.rules.proofs.Sums.{sumBy-none}
@@ -22,7 +21,7 @@ abbrev μ-loop : tie.MeasureT-loop
 μ-loop l seen₀ i₀ seen i = maxNodes - i
 
 loop-holds : tie.Need-loop-holds Inv-loop μ-loop
-loop-holds c = (search needs, search needs, (λ e. rw (zeros 1024 e) (search needs)), (λ e h. zeros 1024 e ∙ sym (sumBy-none (leftIs e) (c .args .t1 .nodes))), search (needs, length-under))
+loop-holds c = (search needs, search needs, (λ e. rw (zeros (maxNodes + 1) e) (search needs)), (λ e h. zeros (maxNodes + 1) e ∙ sym (sumBy-none (leftIs e) (c .args .t1 .nodes))), search (needs, length-under))
 
 mul-x : tie.Need-mul-x Inv-loop μ-loop
 mul-x c = search needs

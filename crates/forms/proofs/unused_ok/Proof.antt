@@ -1,12 +1,10 @@
 -- The invariant: the first i slots pass the test.
 use borrow.Author.Needs.{needs}
 use native.Mathlib.Omega.{arith}
-use mathlib.Core.Path.{_≡_, ap, _∙_}
-use mathlib.Core.Bool.{_||_}
-use Prim.Native.Nat.{ℕ, _+_, _-_, _≤_, _<_}
-use lib.Dec.{leb}
+use mathlib.Core.Path.{_≡_}
+use Prim.Native.Nat.{_-_, _≤_}
 use Rattle.rules.specs.Limits.{maxNodes}
-use Rattle.rules.specs.WellFormed.{upTo, unusedRule, isBlank}
+use Rattle.rules.specs.WellFormed.{upTo, unusedRule}
 use Rattle.rules.proofs.Nodes.{at-next}
 use Rattle.forms.proofs.Laws.{upTo-none, upTo-more}
 use Rattle.forms.proofs.unused_ok.Statement.{statement}

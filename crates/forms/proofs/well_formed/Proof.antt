@@ -1,5 +1,5 @@
 -- The rules of the numbers come first, since the others are tested only within them.
-use mathlib.Core.Path.{refl, sym, _∙_}
+use mathlib.Core.Path.{sym, _∙_}
 use Rattle.forms.proofs.Laws.{used-small}
 use Rattle.rules.specs.WellFormed.{wellFormed}
 use Rattle.forms.proofs.well_formed.Statement.{statement}

@@ -4,6 +4,7 @@ use mathlib.Core.Bool.{true}
 use borrow.Author.Needs.{needs}
 use lib.ListN.{length}
 use Rattle.numbers.proofs.Signed.{told}
+use Rattle.rules.specs.Limits.{maxNodes}
 use Rattle.rules.specs.Requests.{view, answered, requested}
 use Rattle.rules.specs.Table.{at}
 use Rattle.rules.specs.WellFormed.{wellFormed}
@@ -16,7 +17,7 @@ use Rattle.ledger.proofs.Slots.{request-stores}
 use Rattle.ledger.proofs.request.Statement.{statement}
 use Rattle.ledger.proofs.request.Tie as tie
 
-slots : (c : tie.Start) → length (c .args .l .nodes) ≡ 1023
+slots : (c : tie.Start) → length (c .args .l .nodes) ≡ maxNodes
 slots c = search (needs, length-under)
 
 formed : (c : tie.After-decide) → wellFormed (c .before .before .before .before .before .before .args .l) ≡ true

@@ -4,6 +4,7 @@ use Prim.Native.Nat.{_≤_}
 use mathlib.Core.Path.{_∙_}
 use Rattle.nodes.proofs.Laws.{position-small}
 use Rattle.nodes.proofs.Makers.{fresh-within}
+use Rattle.rules.specs.Limits.{maxUntil}
 use Rattle.rules.specs.Nodes.{leftPart, positionOf}
 use Rattle.nodes.proofs.left_part.Statement.{statement}
 use Rattle.nodes.proofs.left_part.Tie as tie
@@ -15,5 +16,5 @@ left-part-spec = tie.close (tie.spec
     (λ c κs. tt)
     (λ c κs. tt)
     (λ c.
-    let p : positionOf (c .before .before .before .args .x) ≤ 2147483647 = position-small (c .before .before .before .args .x .progress) (search needs) in
+    let p : positionOf (c .before .before .before .args .x) ≤ maxUntil = position-small (c .before .before .before .args .x .progress) (search needs) in
     c .fresh-node .ensures ∙ rw (c .before .before .position-of .ensures, c .before .middle-of .ensures) (fresh-within _ _ p)))

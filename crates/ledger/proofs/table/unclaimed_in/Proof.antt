@@ -5,6 +5,7 @@ use mathlib.Core.Path.{_≡_, sym, ap, _∙_}
 use Prim.Native.Nat.{_-_, _*_, _≤_, _<_}
 use lib.ListN.{length, take}
 use lib.Seq.{take-all}
+use Rattle.rules.specs.Limits.{maxNodes}
 use Rattle.rules.specs.Nodes.{blank}
 use Rattle.rules.specs.Count.{restOf, unclaimed}
 use Rattle.rules.specs.Table.{sumBy}
@@ -14,10 +15,10 @@ use Rattle.ledger.proofs.table.unclaimed_in.Statement.{statement}
 use Rattle.ledger.proofs.table.unclaimed_in.Tie as tie
 
 abbrev Inv-loop : tie.InvT-loop
-Inv-loop l k₀ i₀ k i = (i ≤ 1023) × (k ≤ 4294967296 * i) × (k ≡ sumBy restOf (take i (l .nodes))) × (length (l .nodes) ≡ 1023)
+Inv-loop l k₀ i₀ k i = (i ≤ maxNodes) × (k ≤ 4294967296 * i) × (k ≡ sumBy restOf (take i (l .nodes))) × (length (l .nodes) ≡ maxNodes)
 
 abbrev μ-loop : tie.MeasureT-loop
-μ-loop l k₀ i₀ k i = 1023 - i
+μ-loop l k₀ i₀ k i = maxNodes - i
 
 loop-holds : tie.Need-loop-holds Inv-loop μ-loop
 loop-holds c = (omega arith, omega arith, sym (sumBy-none restOf (c .args .t1 .nodes)), search (needs, length-under))

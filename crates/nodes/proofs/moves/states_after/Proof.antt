@@ -9,11 +9,11 @@ use lib.ListN.{getD}
 use borrow.Author.Tests.{eqb-true}
 use Rattle.rules.specs.Moves.{entryIn, leads, asNumber}
 use Rattle.rules.proofs.Facts.{facts}
-use Rattle.nodes.specs.MoveTable.{movesOf}
+use Rattle.nodes.specs.MoveTable.{statesAfter}
 use Rattle.nodes.proofs.Entries.{allEntries, entry}
 use Rattle.nodes.proofs.Laws.{chosen, passed-by}
-use Rattle.nodes.proofs.moves.moves_of.Statement.{statement}
-use Rattle.nodes.proofs.moves.moves_of.Tie as tie
+use Rattle.nodes.proofs.moves.states_after.Statement.{statement}
+use Rattle.nodes.proofs.moves.states_after.Tie as tie
 
 table : List ℕ
 table = 4 ∷ 0 ∷ 0 ∷ 0 ∷ 0 ∷ 0 ∷ 12 ∷ 16 ∷ 0 ∷ 0 ∷ 0 ∷ 0 ∷ 0 ∷ 0 ∷ 0 ∷ 0 ∷ 0 ∷ 0 ∷ 32 ∷ 0 ∷ 0 ∷ 0 ∷ 0 ∷ 0 ∷ 0 ∷ []
@@ -54,16 +54,16 @@ array-read-result : tie.Need-array-read-result
 array-read-result c = omega (arith, simp facts at (c .if1 .taken))
 
 returns : tie.Need-returns
-unfolding movesOf table
+unfolding statesAfter table
 returns c =
     let h = simp facts at (c .if1 .taken) in
     chosen _ _ _ _ (c .if1 .taken) (ruled (c .before .args .state) (c .before .args .kind) (omega arith) (omega arith) (omega arith) (omega arith))
 
 returns-2 : tie.Need-returns-2
-unfolding movesOf
+unfolding statesAfter
 returns-2 c = passed-by _ _ _ _ (c .if1 .left) refl
 
-pub moves-of-spec : {M : Type 1} → statement M
-moves-of-spec =
+pub states-after-spec : {M : Type 1} → statement M
+states-after-spec =
     tie.close
     (tie.spec sub-entry mul-entry sub-entry-2 add-entry cast-entry mul-result array-read-result returns returns-2)
