@@ -57,24 +57,24 @@ pub fn middle_of(x: Node) -> u32
 pub fn state_of(x: Node) -> u32
     ensures { λ r. ⌜ r ≡ stateOf x ⌝ }
 {
-    let held = numbers::given_code(is_unowned(x), Node::AVAILABLE, Node::OWNED);
-    let stolen = numbers::given_code(is_marked(x), Node::STOLEN, held);
-    let expanded = numbers::given_code(is_marked(x) & !is_childless(x), Node::EXPANDED, stolen);
-    numbers::given_code(is_completed(x), Node::COMPLETED, expanded)
+    let held = numbers::pick(is_unowned(x), Node::AVAILABLE, Node::OWNED);
+    let stolen = numbers::pick(is_marked(x), Node::STOLEN, held);
+    let expanded = numbers::pick(is_marked(x) & !is_childless(x), Node::EXPANDED, stolen);
+    numbers::pick(is_completed(x), Node::COMPLETED, expanded)
 }
 
 // 1 for a STOLEN node, 0 for any other.
 pub fn stolen_one(x: Node) -> u32
     ensures { λ r. ⌜ r ≡ stolenOf x ⌝ }
 {
-    numbers::given_code(state_of(x) == Node::STOLEN, 1, 0)
+    numbers::pick(state_of(x) == Node::STOLEN, 1, 0)
 }
 
 // What the node adds to the unclaimed count.
 pub fn rest_of(x: Node) -> u32
     ensures { λ r. ⌜ r ≡ restOf x ⌝ }
 {
-    numbers::given_code(is_childless(x), left_over(x), 0)
+    numbers::pick(is_childless(x), left_over(x), 0)
 }
 
 pub fn blank_node() -> Node

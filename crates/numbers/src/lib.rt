@@ -80,9 +80,9 @@ pub fn less_by(a: u32, b: u32) -> u32
     if b < a { a - b } else { 0 }
 }
 
-// A line of a list of tests: the code where the test holds, and else what the later lines give.
-pub fn given_code(holds: bool, code: u32, rest: u32) -> u32
-    ensures { λ r. ⌜ r ≡ cond holds code rest ⌝ }
+// The one number where a test holds, and else the other. A list of tests is such lines, the last test first.
+pub fn pick(holds: bool, one: u32, other: u32) -> u32
+    ensures { λ r. ⌜ r ≡ cond holds one other ⌝ }
 {
-    if holds { code } else { rest }
+    if holds { one } else { other }
 }

@@ -54,37 +54,37 @@ fn no_room(v: View) -> bool
 fn own_code(x: Node) -> u32
     ensures { λ c. ⌜ c ≡ ownCode x ⌝ }
 {
-    let c6 = numbers::given_code(nodes::is_completed(x), 6, 0);
-    numbers::given_code(!nodes::is_unowned(x), 5, c6)
+    let c6 = numbers::pick(nodes::is_completed(x), 6, 0);
+    numbers::pick(!nodes::is_unowned(x), 5, c6)
 }
 
 fn advance_code(x: Node, r: Request) -> u32
     ensures { λ c. ⌜ c ≡ advanceCode x r ⌝ }
 {
-    let c10 = numbers::given_code(!at_progress(x, r), 10, 0);
-    let c6 = numbers::given_code(nodes::is_completed(x), 6, c10);
-    let c9 = numbers::given_code(nodes::is_marked(x), 9, c6);
-    let c8 = numbers::given_code(!by_owner(x, r), 8, c9);
-    numbers::given_code(!good_amount(r), 7, c8)
+    let c10 = numbers::pick(!at_progress(x, r), 10, 0);
+    let c6 = numbers::pick(nodes::is_completed(x), 6, c10);
+    let c9 = numbers::pick(nodes::is_marked(x), 9, c6);
+    let c8 = numbers::pick(!by_owner(x, r), 8, c9);
+    numbers::pick(!good_amount(r), 7, c8)
 }
 
 fn mark_code(v: View, r: Request) -> u32
     ensures { λ c. ⌜ c ≡ markCode v r ⌝ }
 {
     let x = v.node;
-    let c14 = numbers::given_code(no_room(v), 14, 0);
-    let c10 = numbers::given_code(!at_progress(x, r), 10, c14);
-    let c6 = numbers::given_code(nodes::is_completed(x), 6, c10);
-    let c9 = numbers::given_code(nodes::is_marked(x), 9, c6);
-    let c12 = numbers::given_code(by_owner(x, r), 12, c9);
-    numbers::given_code(nodes::is_unowned(x), 11, c12)
+    let c14 = numbers::pick(no_room(v), 14, 0);
+    let c10 = numbers::pick(!at_progress(x, r), 10, c14);
+    let c6 = numbers::pick(nodes::is_completed(x), 6, c10);
+    let c9 = numbers::pick(nodes::is_marked(x), 9, c6);
+    let c12 = numbers::pick(by_owner(x, r), 12, c9);
+    numbers::pick(nodes::is_unowned(x), 11, c12)
 }
 
 fn expand_code(x: Node) -> u32
     ensures { λ c. ⌜ c ≡ expandCode x ⌝ }
 {
-    let c16 = numbers::given_code(!nodes::is_childless(x), 16, 0);
-    numbers::given_code(!nodes::is_marked(x), 15, c16)
+    let c16 = numbers::pick(!nodes::is_childless(x), 16, 0);
+    numbers::pick(!nodes::is_marked(x), 15, c16)
 }
 
 fn kind_code(v: View, r: Request) -> u32
@@ -105,7 +105,7 @@ fn kind_code(v: View, r: Request) -> u32
 pub fn refusal_of(v: View, r: Request) -> u32
     ensures { λ c. ⌜ c ≡ refusal v r ⌝ }
 {
-    let c4 = numbers::given_code(!good_node(r, v.used), 4, kind_code(v, r));
-    let c3 = numbers::given_code(!good_team(r, v.teams), 3, c4);
-    numbers::given_code(!good_kind(r), 2, c3)
+    let c4 = numbers::pick(!good_node(r, v.used), 4, kind_code(v, r));
+    let c3 = numbers::pick(!good_team(r, v.teams), 3, c4);
+    numbers::pick(!good_kind(r), 2, c3)
 }

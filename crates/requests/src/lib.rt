@@ -26,8 +26,8 @@ fn refusing_by(v: View, code: u32) -> Answer
     ensures { λ a. ⌜ a ≡ refusing v code ⌝ }
 {
     let x = v.node;
-    let mid = numbers::given_code(code == 16, nodes::middle_of(x), 0);
-    let left = numbers::given_code(code == 16, x.left, 0);
+    let mid = numbers::pick(code == 16, nodes::middle_of(x), 0);
+    let left = numbers::pick(code == 16, x.left, 0);
     Answer {
         code: code,
         state: 0,

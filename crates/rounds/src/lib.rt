@@ -33,9 +33,9 @@ fn slot(l: Ledger, number: i32, n: usize) -> usize
 fn outside_code(l: Ledger, number: i32, n: usize) -> u32
     ensures { λ c. ⌜ c ≡ outsideCode l number n ⌝ }
 {
-    let c18 = numbers::given_code(n < l.teams as usize, 18, 0);
-    let c3 = numbers::given_code(!numbers::in_range(number, 1, l.teams), 3, c18);
-    numbers::given_code(!forms::well_formed(l), 1, c3)
+    let c18 = numbers::pick(n < l.teams as usize, 18, 0);
+    let c3 = numbers::pick(!numbers::in_range(number, 1, l.teams), 3, c18);
+    numbers::pick(!forms::well_formed(l), 1, c3)
 }
 
 fn refused_round(l: Ledger, number: i32, n: usize) -> Round

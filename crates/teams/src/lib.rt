@@ -29,8 +29,8 @@ fn is_unfit(cap: i32, t: Team) -> bool
 fn later_code(teams: u32, number: i32, cap: i32, t: Team) -> u32
     ensures { λ c. ⌜ c ≡ first (laterTests teams number cap t) 0 ⌝ }
 {
-    let c19 = numbers::given_code(is_unfit(cap, t), 19, 0);
-    numbers::given_code(!numbers::in_range(number, 1, teams), 3, c19)
+    let c19 = numbers::pick(is_unfit(cap, t), 19, 0);
+    numbers::pick(!numbers::in_range(number, 1, teams), 3, c19)
 }
 
 fn unmoved_by(code: u32, l: Ledger, t: Team) -> Stepped
@@ -94,7 +94,7 @@ pub fn step(l: Ledger, number: i32, cap: i32, team: Team) -> Stepped
     let place = team.place;
     let stopped = places::has_stopped(place);
     if (later != 0) | stopped {
-        let code = numbers::given_code(!forms::well_formed(l), 1, later);
+        let code = numbers::pick(!forms::well_formed(l), 1, later);
         return unmoved_by(code, l, team);
     }
     let t = numbers::natural(number);

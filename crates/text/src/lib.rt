@@ -98,7 +98,7 @@ fn read_row(text: &[u8], from: usize) -> Row
         let b = text[i];
         if tokens::is_numeral(b) {
             let number = tokens::number_at(text, i);
-            code = numbers::given_code(number.value > Token::LARGEST, 23, 0);
+            code = numbers::pick(number.value > Token::LARGEST, 23, 0);
             let more = noted(first, count, number.value);
             first = more;
             count += 1;
@@ -113,7 +113,7 @@ fn read_row(text: &[u8], from: usize) -> Row
                 end: i + 1,
             };
         } else {
-            code = numbers::given_code(tokens::is_blank(b), 0, 22);
+            code = numbers::pick(tokens::is_blank(b), 0, 22);
             i += 1;
         }
     }
@@ -130,7 +130,7 @@ fn stranger_after(stranger: u32, value: u32, line: u32, teams: u32) -> u32
     ensures { λ r. ⌜ r ≡ earlierOf stranger (cond (isTeam teams value) 0 line) ⌝ }
 {
     if stranger == 0 {
-        numbers::given_code((1 <= value) & (value <= teams), 0, line)
+        numbers::pick((1 <= value) & (value <= teams), 0, line)
     } else {
         stranger
     }
@@ -151,7 +151,7 @@ fn read_numbers(text: &[u8], from: usize, on: u32, teams: u32, kept: &mut [i32])
         let b = text[i];
         if tokens::is_numeral(b) {
             let number = tokens::number_at(text, i);
-            code = numbers::given_code(number.value > Token::LARGEST, 23, 0);
+            code = numbers::pick(number.value > Token::LARGEST, 23, 0);
             stranger = stranger_after(stranger, number.value, line, teams);
             kept[count] = numbers::to_signed(number.value);
             count += 1;
@@ -162,7 +162,7 @@ fn read_numbers(text: &[u8], from: usize, on: u32, teams: u32, kept: &mut [i32])
             line += 1;
             i += 1;
         } else {
-            code = numbers::given_code(tokens::is_blank(b), 0, 22);
+            code = numbers::pick(tokens::is_blank(b), 0, 22);
             i += 1;
         }
     }

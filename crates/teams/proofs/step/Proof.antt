@@ -25,7 +25,7 @@ slots c = search (needs, length-under)
 rests : tie.Need-returns
 rests c =
     let s = c .before .before .before .before .before .before in
-    let code : c .before .given-code .result ≡ cond (not (wellFormed (s .args .l))) 1 (first (laterTests (s .args .l .teams) (s .args .number) (s .args .cap) (s .args .team)) 0) = rw (c .before .before .well-formed .ensures, later-is (c .before .before .before .before .before)) at (c .before .given-code .ensures) in
+    let code : c .before .pick .result ≡ cond (not (wellFormed (s .args .l))) 1 (first (laterTests (s .args .l .teams) (s .args .number) (s .args .cap) (s .args .team)) 0) = rw (c .before .before .well-formed .ensures, later-is (c .before .before .before .before .before)) at (c .before .pick .ensures) in
     c .unmoved-by .ensures
     ∙ ap (λ (k : ℕ). unmoved k (s .args .l) (s .args .team)) code
     ∙ step-rests (s .args .l) (s .args .number) (s .args .cap) (s .args .team) (λ z. sym (c .before .before .before .before .has-stopped .ensures) ∙ rests-by _ _ (c .before .before .before .if1 .taken) (later-is (c .before .before .before .before .before) ∙ z))

@@ -80,8 +80,8 @@ is-numeral-requires c κs = search needs
 number-at-requires : tie.Need-number-at-requires Inv-loop μ-loop
 number-at-requires c κs = search needs
 
-given-code-requires : tie.Need-given-code-requires Inv-loop μ-loop
-given-code-requires c κs = search needs
+pick-requires : tie.Need-pick-requires Inv-loop μ-loop
+pick-requires c κs = search needs
 
 stranger-after-requires : tie.Need-stranger-after-requires Inv-loop μ-loop
 stranger-after-requires c κs = search needs
@@ -116,7 +116,7 @@ loop-again c =
     let l = looped t .loop in
     let a = looped t .before .before .args in
     rw
-    (told (c .to-signed .result) (c .to-signed .ok), c .to-signed .ensures, c .before .stranger-after .ensures, c .before .before .given-code .ensures)
+    (told (c .to-signed .result) (c .to-signed .ok), c .to-signed .ensures, c .before .stranger-after .ensures, c .before .before .pick .ensures)
     (read-number (text t) _ (a .from) (a .on) (a .teams) (a .kept .now) (l .i) (l .line) (l .stranger) (l .count) (l .code) (l .kept) (l .inv) (goes t .1) (n .number-at .result) (says n))
 
 comment-end-requires : tie.Need-comment-end-requires Inv-loop μ-loop
@@ -154,8 +154,8 @@ loop-again-3 c =
 is-blank-requires : tie.Need-is-blank-requires Inv-loop μ-loop
 is-blank-requires c κs = search needs
 
-given-code-requires-2 : tie.Need-given-code-requires-2 Inv-loop μ-loop
-given-code-requires-2 c κs = search needs
+pick-requires-2 : tie.Need-pick-requires-2 Inv-loop μ-loop
+pick-requires-2 c κs = search needs
 
 add-i-2 : tie.Need-add-i-2 Inv-loop μ-loop
 add-i-2 c = omega (arith, goes (c .before .before .before .before .before) .0)
@@ -170,7 +170,7 @@ loop-again-4 c =
     let l = looped t .loop in
     let a = looped t .before .before .args in
     rw
-    (c .given-code2 .ensures, c .before .is-blank .ensures)
+    (c .pick2 .ensures, c .before .is-blank .ensures)
     (read-else (text t) _ (a .from) (a .on) (a .teams) (a .kept .now) (l .i) (l .line) (l .stranger) (l .count) (l .code) (l .kept) (l .inv) (goes t .1) (goes t .0) (sym (t .is-numeral .ensures) ∙ e .before .before .if1 .left) (ne-eqb _ 35 (e .before .if2 .left)) (ne-eqb _ 10 (e .if3 .left)))
 
 ruled-by-requires : tie.Need-ruled-by-requires Inv-loop μ-loop
@@ -195,7 +195,7 @@ read-numbers-spec =
     shared-slice-read-b
     is-numeral-requires
     number-at-requires
-    given-code-requires
+    pick-requires
     stranger-after-requires
     to-signed-requires
     mul-t22
@@ -211,7 +211,7 @@ read-numbers-spec =
     loop-less-3
     loop-again-3
     is-blank-requires
-    given-code-requires-2
+    pick-requires-2
     add-i-2
     loop-less-4
     loop-again-4

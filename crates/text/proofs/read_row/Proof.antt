@@ -61,8 +61,8 @@ is-numeral-requires c κs = search needs
 number-at-requires : tie.Need-number-at-requires Inv-loop μ-loop
 number-at-requires c κs = search needs
 
-given-code-requires : tie.Need-given-code-requires Inv-loop μ-loop
-given-code-requires c κs = search needs
+pick-requires : tie.Need-pick-requires Inv-loop μ-loop
+pick-requires c κs = search needs
 
 noted-requires : tie.Need-noted-requires Inv-loop μ-loop
 noted-requires c κs = search needs
@@ -83,7 +83,7 @@ loop-again c =
     let t = n .before .before in
     let l = looped t .loop in
     rw
-    (c .noted .ensures, c .before .given-code .ensures)
+    (c .noted .ensures, c .before .pick .ensures)
     (row-number (text t) _ (l .i) (l .count) (l .first) (l .code) (l .inv) (goes t .1) (n .number-at .result) (says n))
 
 comment-end-requires : tie.Need-comment-end-requires Inv-loop μ-loop
@@ -110,8 +110,8 @@ returns c =
 is-blank-requires : tie.Need-is-blank-requires Inv-loop μ-loop
 is-blank-requires c κs = search needs
 
-given-code-requires-2 : tie.Need-given-code-requires-2 Inv-loop μ-loop
-given-code-requires-2 c κs = search needs
+pick-requires-2 : tie.Need-pick-requires-2 Inv-loop μ-loop
+pick-requires-2 c κs = search needs
 
 add-i : tie.Need-add-i Inv-loop μ-loop
 add-i c = omega (arith, goes (c .before .before .before .before .before) .0)
@@ -125,7 +125,7 @@ loop-again-3 c =
     let t = e .before .before .before in
     let l = looped t .loop in
     rw
-    (c .given-code2 .ensures, c .before .is-blank .ensures)
+    (c .pick2 .ensures, c .before .is-blank .ensures)
     (row-else (text t) _ (l .i) (l .count) (l .first) (l .code) (l .inv) (goes t .1) (goes t .0) (sym (t .is-numeral .ensures) ∙ e .before .before .if1 .left) (ne-eqb _ 35 (e .before .if2 .left)) (ne-eqb _ 10 (e .if3 .left)))
 
 returns-2 : tie.Need-returns-2 Inv-loop μ-loop
@@ -143,7 +143,7 @@ read-row-spec =
     shared-slice-read-b
     is-numeral-requires
     number-at-requires
-    given-code-requires
+    pick-requires
     noted-requires
     add-count
     loop-less
@@ -154,7 +154,7 @@ read-row-spec =
     add-t20
     returns
     is-blank-requires
-    given-code-requires-2
+    pick-requires-2
     add-i
     loop-less-3
     loop-again-3
