@@ -4,18 +4,19 @@ use mathlib.Core.Bool.{true}
 use mathlib.Core.List.{List, [], _∷_}
 use Prim.Native.Nat.{ℕ, _-_}
 use lib.ListN.{drop, replicate, length-replicate}
+use Rattle.rules.specs.Joining.{sameFinds, reportable, joinAll, join}
 use Rattle.rules.specs.declared.Ledger.{Ledger}
 use Rattle.rules.specs.Codes.{Reply, new, ofNew, empty, ofEmpty, held, ofHeld, done, ofDone, stolen, ofStolen, tight, ofTight, ofFull, Answering, EachCode, RefusedOpening}
 use Rattle.rules.specs.Count.{counted}
 use Rattle.rules.specs.Examples.{full}
 use Rattle.rules.specs.Limits.{opens, maxNodes, slotsAfter}
-use Rattle.rules.specs.Nodes.{blank, middle}
+use Rattle.rules.specs.Nodes.{blank, middle, joinedOf}
 use Rattle.rules.specs.Opening.{closed, opening}
-use Rattle.rules.specs.Refusals.{ownCode, advanceCode, markCode, expandCode, kindCode, refusal}
-use Rattle.rules.specs.Requests.{owning, looking, granted, decided, view, answered, requested}
-use Rattle.rules.specs.States.{stateOf, stolenOf}
+use Rattle.rules.specs.Refusals.{ownCode, advanceCode, markCode, expandCode, kindCode, refusal, reportCode, pushCode}
+use Rattle.rules.specs.Requests.{owning, looking, granted, decided, view, answered, requested, reporting, pushing}
+use Rattle.rules.specs.States.{stateOf, stolenOf, unready, ended}
 use Rattle.rules.specs.Table.{at, sumBy, stolenIn}
-use Rattle.rules.specs.WellFormed.{upTo, aloneRule, childRule, nodeRule, leftIs, pairRule, wellFormed}
+use Rattle.rules.specs.WellFormed.{upTo, aloneRule, childRule, nodeRule, leftIs, pairRule, wellFormed, stageRule}
 use Rattle.rules.proofs.Examples.{inUse, good}
 use Rattle.rules.proofs.Opens.{all-blank}
 
@@ -33,7 +34,7 @@ replies : (l : Ledger) (k : ℕ) (qs : List Reply) → drop (l .used) (l .nodes)
 replies l k qs e t h = from-tests l qs (good l k e t) h
 
 pub each-code : EachCode
-unfolding opens middle stateOf stolenOf at sumBy stolenIn upTo aloneRule childRule nodeRule leftIs pairRule wellFormed ownCode advanceCode markCode expandCode kindCode refusal owning looking granted decided view answered requested counted
+unfolding opens middle stateOf stolenOf at sumBy stolenIn upTo aloneRule childRule nodeRule leftIs pairRule wellFormed ownCode advanceCode markCode expandCode kindCode refusal owning looking granted decided view answered requested counted stageRule sameFinds reportable joinedOf joinAll join unready ended reportCode pushCode reporting pushing
 each-code =
     record {
       of-broken = (refl, (refl, tt));

@@ -19,7 +19,7 @@ use Rattle.rules.proofs.Spare.{left-blank, right-blank, pair-room}
 use Rattle.rules.proofs.Effects.{becomes-of}
 use Rattle.rules.proofs.Granted.{not-yet, in-use, late-facts, answers, Settled, denied, cleared, settled}
 use Rattle.rules.proofs.Keeps.{requested-good, requested-wf, refused-keeps}
-use Rattle.rules.proofs.Moves.{moves, others, none}
+use Rattle.rules.proofs.Moves.{moves, keeps-state, others, none}
 use Rattle.rules.proofs.Opens.{begun, opened-wf}
 use Rattle.rules.proofs.Record.{WF, rules, rules-back}
 use Rattle.rules.proofs.States.{is-stolen, is-owned, completed-is}
@@ -82,7 +82,8 @@ follow l r w =
     (record {
       others = others w (becomes-of l r);
       moves = step;
-      none = none l (answered l r .ledger) _ (leads (stateOf (at l (nodeIn r))) (natOf (r .kind))) step;
+      none = λ h. none l (answered l r .ledger) _ (leads (stateOf (at l (nodeIn r))) (natOf (r .kind))) (step h);
+      stays = keeps-state w (answers l r);
     })
 
 pub requests-follow-moves : RequestsFollowMoves

@@ -2,7 +2,7 @@
 use mathlib.Core.Path.{_≡_, refl, sym, _∙_}
 use mathlib.Core.Logic.{_≢_}
 use mathlib.Core.Bool.{true, true≢false}
-use Prim.Native.Nat.{ℕ, _≤_}
+use Prim.Native.Nat.{ℕ, _+_, _≤_}
 use native.Mathlib.Omega.{arith}
 use lib.IntN.{pos, negsuc}
 use Rattle.numbers.specs.Fields.{natOf}
@@ -12,10 +12,10 @@ use Rattle.rules.specs.declared.Ledger.{Ledger}
 use Rattle.rules.specs.declared.Node.{Node}
 use Rattle.rules.specs.declared.Request.{Request}
 use Rattle.rules.specs.Asks.{ADVANCE, EXPAND}
-use Rattle.rules.specs.Nodes.{owned, moved, parted, marked, positionOf, middle, leftPart, rightPart}
-use Rattle.rules.specs.Requests.{ranged, split, batchEnd, nodeIn, answered}
+use Rattle.rules.specs.Nodes.{owned, moved, parted, reported, pushed, marked, positionOf, middle, leftPart, rightPart, joinedOf}
+use Rattle.rules.specs.Requests.{ranged, split, batchEnd, findsIn, nodeIn, answered}
 use Rattle.rules.specs.Table.{InUse, at, put, nextPair}
-use Rattle.rules.proofs.Granted.{Asked, in-use, Advancing, after, Answers, refuses, owns, advances, marks, expands, looks, answers}
+use Rattle.rules.proofs.Granted.{Asked, in-use, Advancing, after, Answers, refuses, owns, advances, marks, expands, looks, reports, pushes, answers}
 use Rattle.rules.proofs.States.{Stolen}
 
 -- a node that is stored for another: the tree is as it was, an owner stays, a mark stands, and no position falls
@@ -58,6 +58,18 @@ other-kind : {r : Request} {a : Answer} (k : ℕ) → natOf (r .kind) ≡ k → 
 other-kind k e not-claim not-split =
     record { no-claim = λ f. absurd (not-claim (sym e ∙ f)); no-split = λ f. absurd (not-split (sym e ∙ f)) }
 
+-- a node that differs in its report alone
+still : (x y : Node) → y .start ≡ x .start → y .until ≡ x .until → y .left ≡ x .left → y .owner ≡ x .owner → y .progress ≡ x .progress → Kept x y
+still x y a b c d e =
+    record {
+      start = a;
+      until = b;
+      left = c;
+      owner = λ some. d;
+      stands = λ m. e;
+      forward = λ h. rw e (omega arith);
+    }
+
 effect : {l : Ledger} {r : Request} {k : ℕ} {a : Answered} → natOf (r .kind) ≡ k → Answers l r k a → Effect l r a
 effect e (refuses ne) = rests (record { no-claim = λ f. ne; no-split = λ f. ne })
 effect {l} {r} e (owns q f) =
@@ -91,6 +103,20 @@ effect {l} {r} e (marks q f) =
     refl
 effect e (expands q f) = splits e q f
 effect e (looks q) = rests (other-kind _ e (omega arith) (omega arith))
+effect {l} {r} e (reports q f) =
+    stores
+    (reported (at l (nodeIn r)) (findsIn r))
+    (other-kind _ e (omega arith) (omega arith))
+    (in-use l r q)
+    (still (at l (nodeIn r)) _ refl refl refl refl refl)
+    refl
+effect {l} {r} e (pushes q f) =
+    stores
+    (pushed (at l (nodeIn r)) (joinedOf (at l (nodeIn r)) (at l (at l (nodeIn r) .left)) (at l (at l (nodeIn r) .left + 1))))
+    (other-kind _ e (omega arith) (omega arith))
+    (in-use l r q)
+    (still (at l (nodeIn r)) _ refl refl refl refl refl)
+    refl
 
 pub effect-of : (l : Ledger) (r : Request) → Effect l r (answered l r)
 effect-of l r = effect refl (answers l r)

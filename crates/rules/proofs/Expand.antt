@@ -8,17 +8,18 @@ use native.Mathlib.Decide.{ℕ-discrete, decLe}
 use lib.ListN.{length}
 use Rattle.rules.specs.declared.Node.{Node}
 use Rattle.rules.specs.declared.Ledger.{Ledger}
-use Rattle.rules.specs.Nodes.{blank, fresh, parted, middle, leftPart, rightPart}
-use Rattle.rules.specs.States.{stolenOf}
+use Rattle.rules.specs.Nodes.{PUSHED, blank, fresh, parted, middle, leftPart, rightPart}
+use Rattle.rules.specs.States.{ended, stolenOf}
 use Rattle.rules.specs.Table.{InUse, at, put, nextPair, grown, sumBy, stolenIn}
 use Rattle.rules.specs.WellFormed.{leftIs}
 use Rattle.rules.proofs.Granted.{after}
 use Rattle.rules.proofs.Nodes.{at-next}
 use Rattle.rules.proofs.Parents.{no-left, is-left}
-use Rattle.rules.proofs.Record.{WF, Alone, Pair, in-table, left-used, right-used, root-used}
+use Rattle.rules.proofs.Record.{WF, Alone, Pair, Staged, in-table, left-used, right-used, root-used}
 use Rattle.rules.proofs.Spare.{spare, left-blank, right-blank, not-left, not-right, pair-room, pair-fits}
 use Rattle.rules.proofs.Split.{split-here, split-left, split-right, split-other, split-length, split-sum}
-use Rattle.rules.proofs.States.{Stolen, stolen-one, parent-none, fresh-none, blank-none}
+use Rattle.rules.proofs.Stages.{staged-kept, kids-pushed, staged-fresh, unpushed, staged-moved}
+use Rattle.rules.proofs.States.{Stolen, going-on, stolen-one, parent-none, fresh-none, blank-none}
 use Rattle.rules.proofs.Sums.{sumBy-zero}
 
 -- a new node is good by itself
@@ -190,6 +191,28 @@ module _ (l : Ledger) (w : WF l) (n : ℕ) (u : InUse l n) (s : Stolen (at l n))
   later-next m (right e) = rw (e, split-slots .right) (λ h. absurd (omega arith))
   later-next m (other v ne n₁ n₂) = rw (split-slots .other m (v .low) ne n₁ n₂) (λ h. w .later m v h)
 
+  -- reports: the node is not pushed, the new ones are as new nodes are, and a pushed node's children stay
+  unpushed-x : x .stage ≢ PUSHED
+  unpushed-x = unpushed x _ _ (w .staged n u) (going-on x (s .mark)) (s .leaf)
+
+  staged-y : (a b : Node) → Staged y a b
+  unfolding ended
+  staged-y a b =
+      staged-moved x y _ _ a b (w .staged n u) unpushed-x (record { start = refl; until = refl; own = refl; joined = refl; stage = refl }) (λ p.
+      w .staged n u .prepared p .over)
+
+  staged-next : (m : ℕ) → Among l n c m → Staged (at next m) (at next (at next m .left)) (at next (at next m .left + 1))
+  unfolding leftPart rightPart
+  staged-next m (parent e) = rw (e, split-slots .here) (staged-y _ _)
+  staged-next m (left e) = rw (e, split-slots .left) (staged-fresh _ _ _ _)
+  staged-next m (right e) = rw (e, split-slots .right) (staged-fresh _ _ _ _)
+  staged-next m (other v ne n₁ n₂) =
+      rw
+      (split-slots .other m (v .low) ne n₁ n₂)
+      (staged-kept (at l m) _ _ _ _ (w .staged m v) (λ h p.
+      let k = kids-pushed l w m v h p in
+      (stays (at l m .left) (left-used l w m v h) (λ z. unpushed-x (rw z at (k .0))), stays (at l m .left + 1) (right-used l w m v h) (λ z. unpushed-x (rw z at (k .1))))))
+
   -- nobody has the new pair yet
   left-below : (m : ℕ) → 1 ≤ m → at l m .left ≢ c
   left-below m p = go (ℕ-discrete (at l m .left) 0) (decLe m (l .used))
@@ -244,6 +267,7 @@ module _ (l : Ledger) (w : WF l) (n : ℕ) (u : InUse l n) (s : Stolen (at l n))
         alone = λ m v. alone-next m (split-slots .among m v);
         pair = λ m v. pair-next m (split-slots .among m v);
         later = λ m v. later-next m (split-slots .among m v);
+        staged = λ m v. staged-next m (split-slots .among m v);
         parent = λ d p q e. parent-next d p q e (ℕ-discrete d c);
         loaded = omega (arith, load-next, w .loaded);
         blank =

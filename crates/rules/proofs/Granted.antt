@@ -1,12 +1,12 @@
 -- What is so when a request is granted, kind by kind, with what it then answers and does.
 use mathlib.Core.Path.{_≡_, refl, sym, ap, _∙_}
 use mathlib.Core.Logic.{_≢_}
-use mathlib.Core.Bool.{Bool, true, false, not, true≢false}
+use mathlib.Core.Bool.{Bool, true, false, not, _&&_, _||_, true≢false}
 use mathlib.Core.List.{[], _∷_}
 use Prim.Native.Nat.{ℕ, _+_, _*_, _≤_, _<_, min}
 use native.Mathlib.Omega.{arith}
 use native.Mathlib.Decide.{ℕ-discrete}
-use lib.Dec.{T}
+use lib.Dec.{T, eqb}
 use lib.IntN.{ℤ, pos, negsuc}
 use borrow.Author.Tests.{eqb-true, eqb-false, ne-eqb, not-false}
 use Rattle.numbers.specs.Progress.{negative, position}
@@ -18,17 +18,19 @@ use Rattle.rules.specs.declared.Request.{Request}
 use Rattle.rules.specs.declared.Answered.{Answered}
 use Rattle.rules.specs.declared.View.{View}
 use Rattle.rules.specs.declared.Change.the-variants.{Keep}
-use Rattle.rules.specs.Asks.{OWN, ADVANCE, MARK, EXPAND, LOOK, lastKind}
+use Rattle.rules.specs.Asks.{OWN, ADVANCE, MARK, EXPAND, LOOK, REPORT, PUSH, lastKind}
 use Rattle.rules.specs.Demands.{ChildrenUnseen}
+use Rattle.rules.specs.Joining.{finds, maxFinds, reportable, passing}
 use Rattle.rules.specs.Limits.{maxAmount}
-use Rattle.rules.specs.Nodes.{owned, moved, parted, marked, unowned, childless, positionOf, middle, leftPart, rightPart}
-use Rattle.rules.specs.States.{completed}
+use Rattle.rules.specs.Moves.{lastMover}
+use Rattle.rules.specs.Nodes.{UNREPORTED, PREPARED, owned, moved, parted, reported, pushed, marked, unowned, childless, positionOf, middle, leftPart, rightPart, joinedOf}
+use Rattle.rules.specs.States.{completed, ended, unready}
 use Rattle.rules.specs.Table.{InUse, at, put, nextPair, grown, stolenIn}
-use Rattle.rules.specs.Refusals.{allTests, ownTests, advanceTests, markTests, expandTests, ownCode, advanceCode, markCode, expandCode, kindCode, refusal}
-use Rattle.rules.specs.Requests.{refusing, ranged, split, seen, outcome, owning, batchEnd, advancing, marking, expanding, looking, granted, decided, view, changed, nodeIn, answered}
+use Rattle.rules.specs.Refusals.{allTests, ownTests, advanceTests, markTests, expandTests, reportTests, pushTests, ownCode, advanceCode, markCode, expandCode, reportCode, pushCode, kindCode, refusal}
+use Rattle.rules.specs.Requests.{refusing, ranged, split, seen, done, outcome, owning, batchEnd, advancing, marking, expanding, looking, findsIn, reporting, pushing, granted, decided, view, alone, changed, nodeIn, answered}
 use Rattle.rules.specs.Tests.{_when_}
-use Rattle.rules.proofs.Facts.{ltb-f}
-use Rattle.rules.proofs.Tests.{lacks, passed-to, passed, Kind, own, advance, mark, expand, look, kind-of}
+use Rattle.rules.proofs.Facts.{both, ltb-f}
+use Rattle.rules.proofs.Tests.{lacks, passed-to, passed, Kind, own, advance, mark, expand, look, report, push, kind-of}
 use Rattle.rules.proofs.States.{Stolen}
 
 -- ---- the facts of each kind
@@ -67,6 +69,16 @@ pub record Marking (x : Node) (r : Request) (load room : ℕ) : Type 0 where
   pub here : Here x r
   pub fits : load + 2 ≤ room
 
+pub record Reporting (x : Node) (r : Request) : Type 0 where
+  pub mine : x .owner ≡ natOf (r .team)
+  pub over : ended x ≡ true
+  pub new : x .stage ≡ UNREPORTED
+  pub fits : passing (findsIn r) ≡ true
+
+pub record Pushing (x a b : Node) : Type 0 where
+  pub prepared : x .stage ≡ PREPARED
+  pub ready : unready x a b ≡ false
+
 -- ---- the answer, and the ledger after it
 
 -- node n becomes x, and has the children a and b at the pair c
@@ -99,8 +111,21 @@ pub data Answers (l : Ledger) (r : Request) : ℕ → Answered → Type 0 where
         answer = split (nextPair l) (middle (at l (nodeIn r)));
       })
   looks : Asked (l .teams) (l .used) r → Answers l r LOOK (record { ledger = l; answer = seen (at l (nodeIn r)) })
+  reports : Asked (l .teams) (l .used) r → Reporting (at l (nodeIn r)) r
+      → Answers l r REPORT (record { ledger = put l (nodeIn r) (reported (at l (nodeIn r)) (findsIn r)); answer = done })
+  pushes : Asked (l .teams) (l .used) r
+      → Pushing (at l (nodeIn r)) (at l (at l (nodeIn r) .left)) (at l (at l (nodeIn r) .left + 1))
+      → Answers l r PUSH (record {
+        ledger = put l (nodeIn r) (pushed (at l (nodeIn r)) (joinedOf (at l (nodeIn r)) (at l (at l (nodeIn r) .left)) (at l (at l (nodeIn r) .left + 1))));
+        answer = done;
+      })
 
 -- ---- reading the lists of tests back
+
+-- what is no number but 0, or negative, is not from 1 on
+no-number : (z : ℤ) (k : ℕ) → natOf z ≡ 0 → within z 1 k ≡ false
+no-number (pos n) k e = rw e
+no-number (negsuc n) k e = refl
 
 unmarked : (z p : ℤ) → negative z ≡ false → p ≡ z → (z ≡ pos (position z)) × (natOf p ≡ position z)
 unmarked (pos n) p t e = (refl, rw e)
@@ -164,6 +189,37 @@ expand-facts x e =
       leaf = eqb-true (x .left) 0 (not-false (childless x) (t .1 .0));
     }
 
+-- a result that passes 33 as it is asked passes it as it is kept
+passes-as : (a b c p q r : ℤ) → a ≡ p → b ≡ q → c ≡ r → reportable a b c ≡ true → reportable p q r ≡ true
+passes-as a b c p q r d e f h = rw (← d, ← e, ← f) h
+
+report-passes : (a b c : ℤ) → reportable a b c ≡ true → passing (finds (natOf a) (natOf b) (natOf c)) ≡ true
+unfolding reportable
+report-passes a b c e =
+    let h = simp both at e in
+    passes-as a b c _ _ _ (within-true a 0 maxFinds (h .0 .0 .0) .is) (within-true b 0 maxFinds (h .0 .0 .1) .is) (within-true c 0 maxFinds (h .0 .1) .is) e
+
+pub report-facts : (x : Node) (r : Request) → reportCode x r ≡ 0 → Reporting x r
+unfolding reportCode
+report-facts x r e =
+    let t = passed (reportTests x r) 0 tt e .0 in
+    record {
+      mine = sym (ap natOf (isNat-true (r .team) (x .owner) (not-false (isNat (r .team) (x .owner)) (t .0))));
+      over = not-false (ended x) (t .1 .0);
+      new = eqb-true (x .stage) UNREPORTED (not-false (eqb (x .stage) UNREPORTED) (t .1 .1 .0));
+      fits =
+          report-passes (r .count) (r .first) (r .last) (not-false (reportable (r .count) (r .first) (r .last)) (t .1 .1 .1 .0));
+    }
+
+pub push-facts : (v : View) → pushCode v ≡ 0 → Pushing (v .node) (v .left) (v .right)
+unfolding pushCode
+push-facts v e =
+    let t = passed (pushTests v) 0 tt e .0 in
+    record {
+      prepared = eqb-true (v .node .stage) PREPARED (not-false (eqb (v .node .stage) PREPARED) (t .1 .0));
+      ready = t .1 .1 .0;
+    }
+
 -- a code that is not of the tests of all is of the kind's own
 asked-to : (k : ℕ) (v : View) (r : Request) → T (lacks k (allTests v r)) → refusal v r ≡ k → Asked (v .teams) (v .used) r × (kindCode v r ≡ k)
 unfolding refusal
@@ -194,12 +250,14 @@ late-expand x h = go (childless x) refl
 -- 16 is given to no request but an expand, and of no node but one that has children
 module _ (v : View) (r : Request) where
   late-kind : kindCode v r ≡ 16 → Kind (natOf (r .kind)) → 0 < v .node .left
-  unfolding kindCode ownCode advanceCode markCode
+  unfolding kindCode ownCode advanceCode markCode reportCode pushCode
   late-kind h (own e) = let none = passed-to 16 (ownTests (v .node)) 0 tt (rw e at h) .1 in absurd (omega arith)
   late-kind h (advance e) = let none = passed-to 16 (advanceTests (v .node) r) 0 tt (rw e at h) .1 in absurd (omega arith)
   late-kind h (mark e) = let none = passed-to 16 (markTests v r) 0 tt (rw e at h) .1 in absurd (omega arith)
   late-kind h (expand e) = late-expand (v .node) (rw e at h)
   late-kind h (look e) = let none = rw e at h in absurd (omega arith)
+  late-kind h (report e) = let none = passed-to 16 (reportTests (v .node) r) 0 tt (rw e at h) .1 in absurd (omega arith)
+  late-kind h (push e) = let none = passed-to 16 (pushTests v) 0 tt (rw e at h) .1 in absurd (omega arith)
 
   pub record Late : Type 0 where
     pub asked : Asked (v .teams) (v .used) r
@@ -263,6 +321,14 @@ module _ (l : Ledger) (r : Request) where
     unfolding given granted changed looking view
     given-look e = rw e (looks asked)
 
+    given-report : natOf (r .kind) ≡ REPORT → Answers l r (natOf (r .kind)) given
+    unfolding given granted changed reporting view
+    given-report e = let f = report-facts x r (unfold kindCode in (rw e at code)) in rw e (reports asked f)
+
+    given-push : natOf (r .kind) ≡ PUSH → Answers l r (natOf (r .kind)) given
+    unfolding given granted changed pushing view
+    given-push e = let f = push-facts v (unfold kindCode in (rw e at code)) in rw e (pushes asked f)
+
     given-is : Answers l r (natOf (r .kind)) given
     given-is = go (kind-of (natOf (r .kind)) (asked .kind .low) (asked .kind .high))
       where
@@ -272,6 +338,8 @@ module _ (l : Ledger) (r : Request) where
         go (mark e) = given-mark e
         go (expand e) = given-expand e
         go (look e) = given-look e
+        go (report e) = given-report e
+        go (push e) = given-push e
 
 pub decided-granted : (v : View) (r : Request) → refusal v r ≡ 0 → decided v r ≡ granted v r
 unfolding decided
@@ -281,10 +349,41 @@ pub decided-refused : (v : View) (r : Request) → refusal v r ≢ 0 → decided
 unfolding decided
 decided-refused v r ne = rw (ne-eqb (refusal v r) 0 ne)
 
--- no decision looks at the children
+-- no decision of a kind of the table looks at the children
+module _ (v : View) (r : Request) where
+  same-decision : refusal (alone v) r ≡ refusal v r → granted (alone v) r ≡ granted v r → decided (alone v) r ≡ decided v r
+  unfolding decided
+  same-decision e f = rw (e, f)
+
+  same-refusal : kindCode (alone v) r ≡ kindCode v r → refusal (alone v) r ≡ refusal v r
+  unfolding refusal
+  same-refusal e = rw e
+
+  no-kind : natOf (r .kind) ≡ 0 → refusal (alone v) r ≡ refusal v r
+  unfolding refusal
+  no-kind e = rw (no-number (r .kind) lastKind e)
+
+  same-grant : granted (alone v) r ≡ granted v r
+  unfolding granted owning advancing marking expanding looking
+  same-grant = refl
+
+  kind-unseen : Kind (natOf (r .kind)) → natOf (r .kind) ≤ lastMover → kindCode (alone v) r ≡ kindCode v r
+  unfolding kindCode markCode
+  kind-unseen (own e) h = rw e
+  kind-unseen (advance e) h = rw e
+  kind-unseen (mark e) h = rw e
+  kind-unseen (expand e) h = rw e
+  kind-unseen (look e) h = rw e
+  kind-unseen (report e) h = absurd (omega arith)
+  kind-unseen (push e) h = absurd (omega arith)
+
 pub children-unseen : ChildrenUnseen
-unfolding decided refusal kindCode markCode granted owning advancing marking expanding looking
-children-unseen v r = refl
+children-unseen v r h = go (ℕ-discrete (natOf (r .kind)) 0)
+  where
+    go : Dec (natOf (r .kind) ≡ 0) → decided (alone v) r ≡ decided v r
+    go (yes e) = same-decision v r (no-kind v r e) (same-grant v r)
+    go (no ne) =
+        same-decision v r (same-refusal v r (kind-unseen v r (kind-of (natOf (r .kind)) (omega arith) (omega arith)) h)) (same-grant v r)
 
 pub answers : (l : Ledger) (r : Request) → Answers l r (natOf (r .kind)) (answered l r)
 unfolding answered given
@@ -311,3 +410,5 @@ settled (advances q f) = cleared refl
 settled (marks q f) = cleared refl
 settled (expands q f) = cleared refl
 settled (looks q) = cleared refl
+settled (reports q f) = cleared refl
+settled (pushes q f) = cleared refl

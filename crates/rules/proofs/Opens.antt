@@ -18,6 +18,7 @@ use Rattle.rules.specs.Table.{InUse, at, sumBy, stolenIn}
 use Rattle.rules.proofs.Expand.{alone-fresh}
 use Rattle.rules.proofs.Facts.{both}
 use Rattle.rules.proofs.Record.{Limited, WF}
+use Rattle.rules.proofs.Stages.{staged-fresh}
 use Rattle.rules.proofs.States.{fresh-none, blank-none}
 
 pub all-blank : (k i : ℕ) → getD (replicate k blank) i blank ≡ blank
@@ -65,6 +66,7 @@ module _ (k a b teams room : ℕ) (slots : k + 1 ≡ maxNodes) (limits : Limited
         alone = λ n u. rw (only n u, root-is) (alone-fresh teams a b (limits .ordered));
         pair = λ n u h. absurd (no-children-of n u h);
         later = λ n u h. absurd (no-children-of n u h);
+        staged = λ n u. rw (only n u, root-is) (staged-fresh a b _ _);
         parent = λ c p q e. absurd (omega arith);
         loaded = light;
         blank = blank-is;

@@ -1,6 +1,6 @@
 -- Well formed, as a record of plain facts, and that the two are the same.
 use Prim.Native.Nat.{ℕ, _+_, _*_, _%_, _<_, _≤_, zero-le}
-use mathlib.Core.Path.{_≡_, sym, _∙_}
+use mathlib.Core.Path.{_≡_, refl, sym, _∙_}
 use mathlib.Core.Logic.{_↔_}
 use mathlib.Core.Bool.{true, false, true≢false}
 use native.Mathlib.Omega.{arith}
@@ -8,13 +8,17 @@ use native.Mathlib.Decide.{decLe, decLt}
 use lib.Dec.{lit≤}
 use lib.IntN.{ℤ, pos}
 use lib.ListN.{length}
+use Rattle.rules.specs.declared.Finds.{Finds}
 use Rattle.rules.specs.declared.Node.{Node}
 use Rattle.rules.specs.declared.Ledger.{Ledger}
 use Rattle.rules.specs.Limits.{opens, maxUntil, maxTeams, maxNodes}
-use Rattle.rules.specs.Nodes.{blank, marked, unowned, positionOf, middle}
+use Rattle.rules.specs.Joining.{none, passing, sameFinds}
+use Rattle.rules.specs.Nodes.{UNREPORTED, PREPARED, PUSHED, makeNode, blank, marked, unowned, positionOf, middle, joinedOf}
+use Rattle.rules.specs.States.{ended, isPushed, unready}
 use Rattle.rules.specs.Table.{InUse, at, sumBy, stolenIn}
-use Rattle.rules.specs.WellFormed.{wellFormed, Sized, Sound, nodeRule, aloneRule, childRule, pairRule, unusedRule, isBlank, leftIs}
+use Rattle.rules.specs.WellFormed.{wellFormed, Sized, Sound, nodeRule, aloneRule, childRule, stageRule, pairRule, unusedRule, isBlank, leftIs}
 use Rattle.rules.proofs.Facts.{facts, both, either, leb-f}
+use Rattle.rules.proofs.Joining.{same-finds}
 use Rattle.rules.proofs.Nodes.{at-out}
 
 -- what is asked of a node by itself
@@ -65,16 +69,96 @@ module _ (node : ℕ → Node) (used n : ℕ) (x : Node) where
   pub child-t : childRule n used x (node (x .left)) (node (x .left + 1)) ≡ true ↔ (0 < x .left → Children)
   child-t = (child-out, child-back)
 
-blank-made : (a b : ℕ) (p : ℤ) (o c : ℕ) → a ≡ 0 → b ≡ 0 → p ≡ pos 0 → o ≡ 0 → c ≡ 0
-    → record { start = a; until = b; progress = p; owner = o; left = c } ≡ blank
-blank-made a b p o c ea eb ep eo ec = cc
+-- ---- results
+
+finds-out : (f g : Finds) → sameFinds f g ≡ true → f ≡ g
+unfolding sameFinds
+finds-out f g e = let h = simp facts at e in same-finds _ _ _ _ _ _ (h .0 .0) (h .0 .1) (h .1)
+
+finds-back : (f g : Finds) → f ≡ g → sameFinds f g ≡ true
+unfolding sameFinds
+finds-back f g e = rw e (simp facts ((refl, refl), refl))
+
+pub finds-t : (f g : Finds) → sameFinds f g ≡ true ↔ (f ≡ g)
+finds-t f g = (finds-out f g, finds-back f g)
+
+-- ---- a node's report
+
+pub record Prepared (x : Node) : Type 0 where
+  pub over : ended x ≡ true
+  pub own : passing (x .own) ≡ true
+  pub joined : x .joined ≡ none
+
+pub record Pushed (x a b : Node) : Type 0 where
+  pub own : passing (x .own) ≡ true
+  pub joined : x .joined ≡ joinedOf x a b
+  pub ready : unready x a b ≡ false
+
+pub record Empty (x : Node) : Type 0 where
+  pub stage : x .stage ≡ PUSHED
+  pub own : x .own ≡ none
+  pub joined : x .joined ≡ none
+
+-- what is asked of the report of a node x with the children a and b
+pub record Staged (x a b : Node) : Type 0 where
+  pub limit : x .stage ≤ PUSHED
+  pub unreported : x .stage ≡ UNREPORTED → (x .own ≡ none) × (x .joined ≡ none)
+  pub prepared : x .stage ≡ PREPARED → Prepared x
+  pub pushed : x .stage ≡ PUSHED → Pushed x a b
+  pub empty : x .start ≡ x .until → Empty x
+
+module _ (x a b : Node) where
+  stage-out : stageRule x a b ≡ true → Staged x a b
+  unfolding stageRule
+  stage-out e =
+      let h = simp (facts, finds-t) at e in
+      record {
+        limit = h .0 .0 .0 .0;
+        unreported = h .0 .0 .0 .1;
+        prepared = λ s. let k = h .0 .0 .1 s in record { over = k .0 .0; own = k .0 .1; joined = k .1 };
+        pushed = λ s. let k = h .0 .1 s in record { own = k .0 .0; joined = k .0 .1; ready = k .1 };
+        empty = λ s. let k = h .1 s in record { stage = k .0 .0; own = k .0 .1; joined = k .1 };
+      }
+
+  stage-back : Staged x a b → stageRule x a b ≡ true
+  unfolding stageRule
+  stage-back h =
+      simp
+      (facts, finds-t)
+      ((((h .limit, h .unreported), λ s. let k = h .prepared s in ((k .over, k .own), k .joined)), λ s. let k = h .pushed s in ((k .own, k .joined), k .ready)), λ s. let k = h .empty s in ((k .stage, k .own), k .joined))
+
+  pub stage-t : stageRule x a b ≡ true ↔ Staged x a b
+  stage-t = (stage-out, stage-back)
+
+blank-made : (a b : ℕ) (p : ℤ) (o c : ℕ) (own joined : Finds) (s : ℕ) → a ≡ 0 → b ≡ 0 → p ≡ pos 0 → o ≡ 0 → c ≡ 0 → own ≡ none
+    → joined ≡ none
+    → s ≡ 0
+    → makeNode a b p o c own joined s ≡ blank
+blank-made a b p o c own joined s ea eb ep eo ec ew ej es = cc
 
 blank-out : (x : Node) → isBlank x ≡ true → x ≡ blank
 blank-out x e =
-    let h = simp facts at e in
-    blank-made (x .start) (x .until) (x .progress) (x .owner) (x .left) (h .0 .0 .0 .0) (h .0 .0 .0 .1) (h .0 .0 .1) (h .0 .1) (h .1)
+    let h = simp (facts, finds-t) at e in
+    blank-made
+    (x .start)
+    (x .until)
+    (x .progress)
+    (x .owner)
+    (x .left)
+    (x .own)
+    (x .joined)
+    (x .stage)
+    (h .0 .0 .0 .0 .0 .0 .0)
+    (h .0 .0 .0 .0 .0 .0 .1)
+    (h .0 .0 .0 .0 .0 .1)
+    (h .0 .0 .0 .0 .1)
+    (h .0 .0 .0 .1)
+    (h .0 .0 .1)
+    (h .0 .1)
+    (h .1)
 
 blank-back : (x : Node) → x ≡ blank → isBlank x ≡ true
+unfolding sameFinds
 blank-back x e = rw e
 
 pub blank-t : (x : Node) → isBlank x ≡ true ↔ (x ≡ blank)
@@ -99,21 +183,24 @@ pub record WF (l : Ledger) : Type 0 where
   pub alone : (n : ℕ) → InUse l n → Alone (l .teams) (at l n)
   pub pair : (n : ℕ) → InUse l n → 0 < at l n .left → Pair (at l) (l .used) (at l n)
   pub later : (n : ℕ) → InUse l n → 0 < at l n .left → n < at l n .left
+  pub staged : (n : ℕ) → InUse l n → Staged (at l n) (at l (at l n .left)) (at l (at l n .left + 1))
   pub parent : (c : ℕ) → 0 < c → c < l .used → c % 2 ≡ 0 → sumBy (leftIs c) (l .nodes) ≡ 1
   pub loaded : l .used + 2 * stolenIn l ≤ l .room
   pub blank : (n : ℕ) → l .used < n → at l n ≡ blank
 
 module _ (l : Ledger) where
   abbrev NodeGood : ℕ → Type 0
-  NodeGood n = Alone (l .teams) (at l n) × (0 < at l n .left → Children (at l) (l .used) n (at l n))
+  NodeGood n =
+      (Alone (l .teams) (at l n) × (0 < at l n .left → Children (at l) (l .used) n (at l n)))
+      × Staged (at l n) (at l (at l n .left)) (at l (at l n .left + 1))
 
   node-out : (n : ℕ) → nodeRule l n ≡ true → NodeGood n
   unfolding nodeRule
-  node-out n e = simp (both, alone-t, child-t (at l) (l .used) n (at l n)) at e
+  node-out n e = simp (both, alone-t, child-t (at l) (l .used) n (at l n), stage-t) at e
 
   node-back : (n : ℕ) → NodeGood n → nodeRule l n ≡ true
   unfolding nodeRule
-  node-back n h = simp (both, alone-t, child-t (at l) (l .used) n (at l n)) h
+  node-back n h = simp (both, alone-t, child-t (at l) (l .used) n (at l n), stage-t) h
 
   node-t : (n : ℕ) → nodeRule l n ≡ true ↔ NodeGood n
   node-t n = (node-out n, node-back n)
@@ -175,9 +262,10 @@ rules l s =
       used-room = t .used-room;
       root-start = t .root-start;
       root-until = t .root-until;
-      alone = λ n u. t .node n (u .low) (u .high) .0;
-      pair = λ n u h. t .node n (u .low) (u .high) .1 h .pair;
-      later = λ n u h. t .node n (u .low) (u .high) .1 h .later;
+      alone = λ n u. t .node n (u .low) (u .high) .0 .0;
+      pair = λ n u h. t .node n (u .low) (u .high) .0 .1 h .pair;
+      later = λ n u h. t .node n (u .low) (u .high) .0 .1 h .later;
+      staged = λ n u. t .node n (u .low) (u .high) .1;
       parent = λ c p q. t .parent c p (omega arith);
       loaded = t .loaded;
       blank = λ n p. unused n p (decLe n maxNodes);
@@ -202,7 +290,7 @@ rules-back l w =
     })
   where
     good : (n : ℕ) → InUse l n → NodeGood l n
-    good n u = (w .alone n u, λ h. record { pair = w .pair n u h; later = w .later n u h })
+    good n u = ((w .alone n u, λ h. record { pair = w .pair n u h; later = w .later n u h }), w .staged n u)
 
 pub both-sound : {l : Ledger} → Sized l → wellFormed l ≡ true → Sound l
 both-sound a b = record { sized = a; formed = b }

@@ -1,18 +1,20 @@
 -- A change of one node that keeps a ledger well formed.
 use mathlib.Core.Path.{_≡_, _∙_}
+use mathlib.Core.Logic.{_≢_}
 use Prim.Native.Nat.{ℕ, _+_, _*_, _≤_, _<_}
 use native.Mathlib.Omega.{arith}
 use native.Mathlib.Decide.{ℕ-discrete}
 use lib.ListN.{length}
 use Rattle.rules.specs.declared.Node.{Node}
 use Rattle.rules.specs.declared.Ledger.{Ledger}
-use Rattle.rules.specs.Nodes.{middle}
+use Rattle.rules.specs.Nodes.{PUSHED, middle}
 use Rattle.rules.specs.States.{stolenOf}
 use Rattle.rules.specs.Table.{InUse, at, put, stolenIn}
 use Rattle.rules.specs.WellFormed.{leftIs}
 use Rattle.rules.proofs.Nodes.{at-same, at-other, put-was, put-length}
 use Rattle.rules.proofs.Sums.{sumBy-put}
-use Rattle.rules.proofs.Record.{WF, Alone, Pair, in-table}
+use Rattle.rules.proofs.Record.{WF, Alone, Pair, Staged, in-table}
+use Rattle.rules.proofs.Stages.{staged-kept, kids-pushed}
 
 -- the same range and children, and under children the same progress
 pub record Swap (x y : Node) : Type 0 where
@@ -27,7 +29,8 @@ unfolding stolenIn
 stolen-put l n y p q = sumBy-put stolenOf l n y p q
 
 module _ (l : Ledger) (w : WF l) (n : ℕ) (y : Node) (u : InUse l n) (sw : Swap (at l n) y)
-    (alone-y : Alone (l .teams) y) (spare : l .used + 2 * (stolenIn l + stolenOf y) ≤ l .room + 2 * stolenOf (at l n)) where
+    (alone-y : Alone (l .teams) y) (unpushed : at l n .stage ≢ PUSHED) (staged-y : Staged y (at l (y .left)) (at l (y .left + 1)))
+    (spare : l .used + 2 * (stolenIn l + stolenOf y) ≤ l .room + 2 * stolenOf (at l n)) where
   low : 1 ≤ n
   low = u .low
 
@@ -99,6 +102,7 @@ module _ (l : Ledger) (w : WF l) (n : ℕ) (y : Node) (u : InUse l n) (sw : Swap
         alone = λ m v. go-alone m (put-was l n y v) (ℕ-discrete m n);
         pair = λ m v. go-pair m (put-was l n y v) (ℕ-discrete m n);
         later = λ m v. go-later m (put-was l n y v) (ℕ-discrete m n);
+        staged = λ m v. go-staged m (put-was l n y v) (ℕ-discrete m n);
         parent = λ c p q e. omega (arith, sumBy-put (leftIs c) l n y low fits, same-left c, w .parent c p q e);
         loaded = omega (arith, stolen-put l n y low fits);
         blank = λ m p. at-other l n y low m (omega arith) (omega arith) ∙ w .blank m p;
@@ -115,3 +119,28 @@ module _ (l : Ledger) (w : WF l) (n : ℕ) (y : Node) (u : InUse l n) (sw : Swap
       go-later : (m : ℕ) → InUse l m → Dec (m ≡ n) → 0 < at (put l n y) m .left → m < at (put l n y) m .left
       go-later m v (yes e) = rw (e, same) (λ h. rw (sw .left) (w .later n u (had-children h)))
       go-later m v (no ne) = rw (at-other l n y low m (v .low) ne) (w .later m v)
+
+      -- its own children have other numbers, and a pushed node's children are pushed
+      stays : (m : ℕ) → 1 ≤ m → m ≢ n → at (put l n y) m ≡ at l m
+      stays m p ne = at-other l n y low m p ne
+
+      below : 0 < y .left → n < y .left
+      below h = rw (sw .left) (w .later n u (had-children h))
+
+      other : (m : ℕ) → 1 ≤ m → at l m .stage ≡ PUSHED → at (put l n y) m ≡ at l m
+      other m p s = stays m p (λ e. unpushed (rw e at s))
+
+      go-staged : (m : ℕ) → InUse l m → Dec (m ≡ n)
+          → Staged (at (put l n y) m) (at (put l n y) (at (put l n y) m .left)) (at (put l n y) (at (put l n y) m .left + 1))
+      go-staged m v (yes e) =
+          rw
+          (e, same)
+          (staged-kept y _ _ _ _ staged-y (λ h s.
+          let k = below h in
+          (stays (y .left) h (omega arith), stays (y .left + 1) (omega arith) (omega arith))))
+      go-staged m v (no ne) =
+          rw
+          (at-other l n y low m (v .low) ne)
+          (staged-kept (at l m) _ _ _ _ (w .staged m v) (λ h s.
+          let k = kids-pushed l w m v h s in
+          (other (at l m .left) h (k .0), other (at l m .left + 1) (omega arith) (k .1))))

@@ -1,4 +1,4 @@
--- A list of tests that gives a code which none of them has: no test of it holds. And the five kinds.
+-- A list of tests that gives a code which none of them has: no test of it holds. And the kinds.
 use mathlib.Core.Path.{_≡_, refl}
 use mathlib.Core.Logic.{_≢_}
 use mathlib.Core.Bool.{Bool, true, false, cond, not, _&&_}
@@ -7,7 +7,7 @@ use Prim.Native.Nat.{ℕ, zero, suc, _≤_}
 use native.Mathlib.Omega.{arith}
 use lib.Dec.{T, eqb}
 use borrow.Author.Tests.{eq-eqb}
-use Rattle.rules.specs.Asks.{OWN, ADVANCE, MARK, EXPAND, LOOK, lastKind}
+use Rattle.rules.specs.Asks.{OWN, ADVANCE, MARK, EXPAND, LOOK, REPORT, PUSH, lastKind}
 use Rattle.rules.specs.Tests.{Test, first}
 
 -- no test of the list holds
@@ -51,6 +51,8 @@ pub data Kind (k : ℕ) : Type 0 where
   mark : k ≡ MARK → Kind k
   expand : k ≡ EXPAND → Kind k
   look : k ≡ LOOK → Kind k
+  report : k ≡ REPORT → Kind k
+  push : k ≡ PUSH → Kind k
 
 pub kind-of : (k : ℕ) → 1 ≤ k → k ≤ lastKind → Kind k
 kind-of zero a b = absurd (omega arith)
@@ -59,4 +61,6 @@ kind-of (suc (suc zero)) a b = advance refl
 kind-of (suc (suc (suc zero))) a b = mark refl
 kind-of (suc (suc (suc (suc zero)))) a b = expand refl
 kind-of (suc (suc (suc (suc (suc zero))))) a b = look refl
-kind-of (suc (suc (suc (suc (suc (suc k)))))) a b = absurd (omega arith)
+kind-of (suc (suc (suc (suc (suc (suc zero)))))) a b = report refl
+kind-of (suc (suc (suc (suc (suc (suc (suc zero))))))) a b = push refl
+kind-of (suc (suc (suc (suc (suc (suc (suc (suc k)))))))) a b = absurd (omega arith)

@@ -9,9 +9,11 @@ use Rattle.rules.specs.declared.Answer.{Answer}
 use Rattle.rules.specs.declared.Ledger.{Ledger}
 use Rattle.rules.specs.declared.Opening.{Opening}
 use Rattle.rules.specs.declared.Request.{Request}
-use Rattle.rules.specs.Asks.{lastKind, request, own, advance, mark, expand, look}
+use Rattle.rules.specs.Asks.{lastKind, plain, own, advance, mark, expand, look}
 use Rattle.rules.specs.Count.{counted}
-use Rattle.rules.specs.Examples.{node, rooted, full}
+use Rattle.rules.specs.Examples.{rooted, full}
+use Rattle.rules.specs.Joining.{finds}
+use Rattle.rules.specs.Nodes.{makeNode}
 use Rattle.rules.specs.Limits.{opens}
 use Rattle.rules.specs.Opening.{opening}
 use Rattle.rules.specs.Requests.{requested}
@@ -45,9 +47,9 @@ abbrev pub ofNew : List Reply
 ofNew =
     (own 1 1 gives answer 0 0 0 5 0 0)
     ∷ (look 1 1 gives answer 0 AVAILABLE 0 5 0 0)
-    ∷ (request (pos 0) (pos 1) (pos 1) (pos 0) (pos 0) gets 2)
-    ∷ (request (pos (lastKind + 1)) (pos 1) (pos 1) (pos 0) (pos 0) gets 2)
-    ∷ (request (negsuc 0) (pos 3) (pos 1) (pos 0) (pos 0) gets 2)
+    ∷ (plain (pos 0) (pos 1) (pos 1) (pos 0) (pos 0) gets 2)
+    ∷ (plain (pos (lastKind + 1)) (pos 1) (pos 1) (pos 0) (pos 0) gets 2)
+    ∷ (plain (negsuc 0) (pos 3) (pos 1) (pos 0) (pos 0) gets 2)
     ∷ (look 0 1 gets 3)
     ∷ (look 3 2 gets 3)
     ∷ (look 1 0 gets 4)
@@ -136,7 +138,7 @@ abbrev pub broken : Ledger
 broken = rooted 7 5 (pos 6) 1
 
 pub record EachCode : Type 0 where
-  pub of-broken : Answering broken ((look 1 1 gets 1) ∷ (request (pos 0) (pos 0) (pos 0) (pos 0) (pos 0) gets 1) ∷ [])
+  pub of-broken : Answering broken ((look 1 1 gets 1) ∷ (plain (pos 0) (pos 0) (pos 0) (pos 0) (pos 0) gets 1) ∷ [])
   pub count-broken : counted broken ≡ record { code = 1; count = 0 }
   pub of-new : Answering new ofNew
   pub of-empty : Answering empty ofEmpty
@@ -156,7 +158,7 @@ pub record AllZero (l : Ledger) : Type 0 where
   pub room : l .room ≡ 0
   pub used : l .used ≡ 0
   pub sized : Sized l
-  pub nodes : (n : ℕ) → at l n ≡ node 0 0 (pos 0) 0 0
+  pub nodes : (n : ℕ) → at l n ≡ makeNode 0 0 (pos 0) 0 0 (finds 0 0 0) (finds 0 0 0) 0
 
 -- "A refused opening gives an all-zero ledger."
 abbrev pub RefusedOpening : Type 0
