@@ -149,7 +149,7 @@ becomes-free {l} {n = n} s w (put-there y u h) = omega (arith, less-free s l w n
 becomes-free {l} {n = n} s w (forked u f) = split-free s l w n u f
 
 requested-free : (s : ℕ) (l : Ledger) (r : Request) → WF l → freeAt s (requested l r .ledger) ≤ freeAt s l
-requested-free s l r w = rw (requested-wf l r w) (becomes-free s w (becomes-of l r))
+requested-free s l r w = rw (requested-wf l r w) (becomes-free s w (becomes-of l r w))
 
 run-free : (s : ℕ) (l : Ledger) (rs : List Request) → WF l → freeAt s (afterAll l rs) ≤ freeAt s l
 unfolding afterAll

@@ -71,7 +71,7 @@ becomes-later {l} {k} {n} w good s = record { wf = good; used = still-used w s; 
     go m u (no ne) = rw (others w s m u ne) (stay (at l m))
 
 pub requested-later : (l : Ledger) (r : Request) → WF l → Later l (requested l r .ledger)
-requested-later l r w = rw (requested-wf l r w) (becomes-later w (wf-answered l r w) (becomes-of l r))
+requested-later l r w = rw (requested-wf l r w) (becomes-later w (wf-answered l r w) (becomes-of l r w))
 
 later-twice : (l k j : Ledger) → Later l k → Later k j → Later l j
 later-twice l k j a b =

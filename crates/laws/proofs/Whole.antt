@@ -161,8 +161,8 @@ moved-whole l bs r h q f good =
 -- the facts of a change, with what the answer grants
 effect-whole : {l : Ledger} {bs : List Batch} {r : Request} {a : Answered} → Whole l bs → WF (a .ledger) → Effect l r a
     → Whole (a .ledger) (batchOf r (a .answer) ++ bs)
-effect-whole {r = r} h good (rests {a = a} q) = rw (no-batch r a (q .no-claim)) h
-effect-whole {l} {bs} {r} h good (stores {a = a} y q u kept e) =
+effect-whole {r = r} h good (rests {a = a} q t) = rw (no-batch r a (q .no-claim)) h
+effect-whole {l} {bs} {r} h good (stores {a = a} y q u kept e t) =
     rw (no-batch r a (q .no-claim)) (still-whole l bs (nodeIn r) y h u good kept e)
 effect-whole {l} {bs} {r} h good (claims is q f) =
     let x = at l (nodeIn r) in
@@ -173,7 +173,7 @@ effect-whole {l} {bs} {r} h good (splits is q f) =
 pub requested-whole : (l : Ledger) (bs : List Batch) (r : Request) → Whole l bs
     → Whole (requested l r .ledger) (batchOf r (requested l r .answer) ++ bs)
 requested-whole l bs r h =
-    rw (requested-wf l r (h .wf)) (effect-whole h (wf-answered l r (h .wf)) (effect-of l r))
+    rw (requested-wf l r (h .wf)) (effect-whole h (wf-answered l r (h .wf)) (effect-of l r (h .wf)))
 
 -- any list of requests
 pub run-whole : (l : Ledger) (bs : List Batch) (rs : List Request) → Whole l bs → Whole (afterAll l rs) (batches l rs ++ bs)

@@ -80,7 +80,7 @@ follow l r w =
     rw
     (requested-wf l r w)
     (record {
-      others = others w (becomes-of l r);
+      others = others w (becomes-of l r w);
       moves = step;
       none = λ h. none l (answered l r .ledger) _ (leads (stateOf (at l (nodeIn r))) (natOf (r .kind))) (step h);
       stays = keeps-state w (answers l r);

@@ -1,7 +1,7 @@
 -- A node, and each way to make one: nothing else says which fields a node has.
 use Prim.Native.Nat.{ℕ, _+_, _-_, _/_}
-use mathlib.Core.Bool.{Bool, cond}
-use mathlib.Core.List.{[], _∷_}
+use mathlib.Core.Bool.{Bool, cond, _||_}
+use mathlib.Core.List.{List, [], _∷_}
 use lib.IntN.{ℤ, pos}
 use lib.Dec.{eqb}
 use Rattle.numbers.specs.Progress.{negative, position}
@@ -101,3 +101,7 @@ rightPart x = fresh (middle x) (x .until)
 -- "Joining goes own, left, right": the joined result of a node x whose children are a and b
 unfoldable pub joinedOf : Node → Node → Node → Finds
 joinedOf x a b = joinAll (cond (childless x) (x .own ∷ []) (x .own ∷ a .joined ∷ b .joined ∷ []))
+
+-- what was reported of a node: its own result, once it is there. Of an empty node nobody reports
+unfoldable pub reportsOf : Node → List Finds
+reportsOf x = cond (eqb (x .stage) UNREPORTED || eqb (x .start) (x .until)) [] (x .own ∷ [])
