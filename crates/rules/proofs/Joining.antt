@@ -25,11 +25,11 @@ two-labels m n a b after = go (ℕ-discrete m 0) (ℕ-discrete n 0)
     go (yes e) (no f) = rw (ne-eqb (m + n) 0 (omega arith), eq-eqb m 0 e, ne-eqb n 0 f)
     go (no e) d = rw (ne-eqb (m + n) 0 (omega arith), ne-eqb m 0 e)
 
-first-join : (a b : Finds) (after : ℕ) → firstOf (join a b) after ≡ firstOf a (firstOf b after)
+pub first-join : (a b : Finds) (after : ℕ) → firstOf (join a b) after ≡ firstOf a (firstOf b after)
 unfolding join
 first-join a b after = two-labels (a .count) (b .count) (a .first) (b .first) after
 
-last-join : (a b : Finds) (before : ℕ) → lastOf (join a b) before ≡ lastOf b (lastOf a before)
+pub last-join : (a b : Finds) (before : ℕ) → lastOf (join a b) before ≡ lastOf b (lastOf a before)
 unfolding join
 last-join a b before =
     let e : a .count + b .count ≡ b .count + a .count = omega arith in
