@@ -20,6 +20,7 @@ pub mod Keeps
 pub mod Opens
 pub mod Rooted
 pub mod TreeSum
+pub mod FindsFit
 pub mod Range
 pub mod Moves
 pub mod Examples

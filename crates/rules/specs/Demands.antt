@@ -3,7 +3,7 @@ use mathlib.Core.Path.{_≡_}
 use mathlib.Core.Logic.{_≢_, _⊎_}
 use mathlib.Core.Bool.{true}
 use mathlib.Core.List.{[]}
-use Prim.Native.Nat.{ℕ, _+_, _-_, _≤_, _<_}
+use Prim.Native.Nat.{ℕ, _+_, _-_, _*_, _≤_, _<_}
 use Rattle.numbers.specs.Fields.{natOf}
 use Rattle.rules.specs.declared.Answer.{Answer}
 use Rattle.rules.specs.declared.Ledger.{Ledger}
@@ -13,9 +13,10 @@ use Rattle.rules.specs.declared.Request.{Request}
 use Rattle.rules.specs.declared.View.{View}
 use Rattle.rules.specs.Count.{unclaimed, counted}
 use Rattle.rules.specs.Examples.{examples, AllRight}
+use Rattle.rules.specs.Joining.{maxFinds}
 use Rattle.rules.specs.Limits.{maxUntil}
 use Rattle.rules.specs.Moves.{lastMover, leads, isIn}
-use Rattle.rules.specs.Nodes.{blank, fresh, positionOf, leftOver, marked, leftPart, rightPart}
+use Rattle.rules.specs.Nodes.{blank, fresh, positionOf, leftOver, marked, leftPart, rightPart, joinedOf}
 use Rattle.rules.specs.Opening.{opening}
 use Rattle.rules.specs.Requests.{nodeIn, refusing, decided, view, alone, requested}
 use Rattle.rules.specs.States.{OWNED, COMPLETED, STOLEN, stateOf}
@@ -88,6 +89,12 @@ CountAtMost = (l : Ledger) → Sound l → unclaimed l ≤ l .until - l .start
 -- So a count fits a signed 32-bit number.
 abbrev pub CountFits : Type 0
 CountFits = (l : Ledger) → Sized l → counted l .count ≤ maxUntil
+
+-- A node's joined count is at most that of the largest report for each node in use, so it fits 32 bits.
+abbrev pub JoinedFits : Type 0
+JoinedFits =
+    (l : Ledger) (n : ℕ) → Sound l → InUse l n
+    → joinedOf (at l n) (at l (at l n .left)) (at l (at l n .left + 1)) .count ≤ maxFinds * l .used
 
 -- What the rule of moves says of a request r that makes a ledger l into another.
 pub record Moves (l : Ledger) (r : Request) (next : Ledger) : Type 0 where
