@@ -19,10 +19,10 @@ use Rattle.rules.specs.declared.View.{View}
 use Rattle.rules.specs.declared.Outcome.{Outcome}
 use Rattle.rules.specs.declared.Change.{Change}
 use Rattle.rules.specs.declared.Change.the-variants.{Keep}
-use Rattle.rules.specs.Asks.{OWN, ADVANCE, MARK, EXPAND}
+use Rattle.rules.specs.Asks.{OWN, ADVANCE, MARK, EXPAND, LOOK, REPORT}
 use Rattle.rules.specs.Limits.{maxTeams, maxCap}
-use Rattle.rules.specs.Refusals.{allTests, ownTests, advanceTests, markTests, expandTests, ownCode, advanceCode, markCode, expandCode, kindCode, refusal}
-use Rattle.rules.specs.Requests.{refused, refusing, outcome, owning, advancing, marking, expanding, looking, granted, decided, view, nodeIn, answered, requested}
+use Rattle.rules.specs.Refusals.{allTests, ownTests, advanceTests, markTests, expandTests, reportTests, pushTests, ownCode, advanceCode, markCode, expandCode, reportCode, pushCode, kindCode, refusal}
+use Rattle.rules.specs.Requests.{refused, refusing, outcome, owning, advancing, marking, expanding, looking, reporting, pushing, granted, decided, view, nodeIn, answered, requested}
 use Rattle.rules.specs.Table.{at}
 use Rattle.rules.specs.Tests.{Test, first}
 use Rattle.rules.specs.WellFormed.{wellFormed, Sized}
@@ -46,17 +46,20 @@ pub left-small : (v : View) (q : Request) (k : ℕ) → v .node .left ≤ k → 
 unfolding decided
 left-small v q k node pair = refused-or (eqb (refusal v q) 0)
   where
-    of-kind : (a b c d : Bool)
-        → cond a (owning v q) (cond b (advancing v q) (cond c (marking v q) (cond d (expanding v) (looking v)))) .answer .left ≤ k
-    of-kind true b c d = unfold owning in (omega arith)
-    of-kind false true c d = unfold advancing in (omega arith)
-    of-kind false false true d = unfold marking in (omega arith)
-    of-kind false false false true = unfold expanding in pair
-    of-kind false false false false = unfold looking in node
+    of-kind : (a b c d e f : Bool)
+        → cond a (owning v q) (cond b (advancing v q) (cond c (marking v q) (cond d (expanding v) (cond e (looking v) (cond f (reporting q) pushing))))) .answer .left ≤ k
+    of-kind true b c d e f = unfold owning in (omega arith)
+    of-kind false true c d e f = unfold advancing in (omega arith)
+    of-kind false false true d e f = unfold marking in (omega arith)
+    of-kind false false false true e f = unfold expanding in pair
+    of-kind false false false false true f = unfold looking in node
+    of-kind false false false false false true = unfold reporting in (omega arith)
+    of-kind false false false false false false = unfold pushing in (omega arith)
 
     refused-or : (b : Bool) → cond b (granted v q) (outcome (refusing v (refusal v q)) Keep) .answer .left ≤ k
     refused-or true =
-        unfold granted in (of-kind (eqb (natOf (q .kind)) OWN) (eqb (natOf (q .kind)) ADVANCE) (eqb (natOf (q .kind)) MARK) (eqb (natOf (q .kind)) EXPAND))
+        let kind : ℕ → Bool = λ n. eqb (natOf (q .kind)) n in
+        unfold granted in (of-kind (kind OWN) (kind ADVANCE) (kind MARK) (kind EXPAND) (kind LOOK) (kind REPORT))
     refused-or false = late (eqb (refusal v q) 16)
       where
         late : (b : Bool) → cond b (v .node .left) 0 ≤ k
