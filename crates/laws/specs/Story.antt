@@ -3,7 +3,7 @@
 -- unclaimed at the end; and so is what a pushed root holds.
 use Prim.Native.Nat.{ℕ, _+_}
 use mathlib.Core.Path.{_≡_}
-use mathlib.Core.Bool.{cond}
+use mathlib.Core.Bool.{Bool, cond}
 use mathlib.Core.List.{List, [], _∷_, _++_}
 use lib.Dec.{eqb}
 use Rattle.numbers.specs.Fields.{natOf}
@@ -57,11 +57,15 @@ onNode n f (parted m es x y) = cond (eqb m n) (f (parted m es x y)) (parted m es
 abbrev pub reportIn : Request → Report
 reportIn r = record { team = natOf (r .team); node = nodeIn r; result = findsIn r }
 
+-- "code (0 when granted)"
+abbrev pub clear : Answer → Bool
+clear a = eqb (a .code) 0
+
 -- the story after a request that was answered so: "a refusal has only its code and changes nothing"
 unfoldable pub told : Request → Answer → Story → Story
 told r a s =
     cond
-    (eqb (a .code) 0)
+    (clear a)
     (byKind
     (natOf (r .kind))
     s
@@ -130,7 +134,7 @@ entriesIn (parted n es x y) = es ++ (entriesIn x ++ entriesIn y)
 unfoldable pub entryOf : Request → Answer → List Entry
 entryOf r a =
     cond
-    (eqb (a .code) 0)
+    (clear a)
     (byKind (natOf (r .kind)) [] (given (batchIn r a) ∷ []) [] [] [] (found (reportIn r) ∷ []) [])
     []
 
