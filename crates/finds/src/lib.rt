@@ -55,13 +55,13 @@ pub fn passes(f: Finds) -> bool
 fn first_of(f: Finds, after: u32) -> u32
     ensures { λ r. ⌜ r ≡ firstOf f after ⌝ }
 {
-    numbers::given_code(f.count == 0, after, f.first)
+    numbers::pick(f.count == 0, after, f.first)
 }
 
 fn last_of(f: Finds, before: u32) -> u32
     ensures { λ r. ⌜ r ≡ lastOf f before ⌝ }
 {
-    numbers::given_code(f.count == 0, before, f.last)
+    numbers::pick(f.count == 0, before, f.last)
 }
 
 // Own, left, right. Three counts of any size make a sum in 64 bits.

@@ -132,7 +132,7 @@ pub fn fresh_node(a: u32, b: u32) -> Node
 {
     let p = numbers::to_signed(a);
     let none = finds::none();
-    let stage = numbers::given_code(a == b, Node::PUSHED, Node::UNREPORTED);
+    let stage = numbers::pick(a == b, Node::PUSHED, Node::UNREPORTED);
     Node {
         start: a,
         until: b,

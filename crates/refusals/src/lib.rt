@@ -97,19 +97,19 @@ fn expand_code(x: Node) -> u32
 fn report_code(x: Node, r: Request) -> u32
     ensures { λ c. ⌜ c ≡ reportCode x r ⌝ }
 {
-    let c33 = numbers::given_code(!good_report(r), 33, 0);
-    let c32 = numbers::given_code(!(x.stage == Node::UNREPORTED), 32, c33);
-    let c31 = numbers::given_code(!nodes::is_ended(x), 31, c32);
-    numbers::given_code(!by_owner(x, r), 8, c31)
+    let c33 = numbers::pick(!good_report(r), 33, 0);
+    let c32 = numbers::pick(!(x.stage == Node::UNREPORTED), 32, c33);
+    let c31 = numbers::pick(!nodes::is_ended(x), 31, c32);
+    numbers::pick(!by_owner(x, r), 8, c31)
 }
 
 fn push_code(v: View) -> u32
     ensures { λ c. ⌜ c ≡ pushCode v ⌝ }
 {
     let x = v.node;
-    let c36 = numbers::given_code(nodes::is_unready(x, v.left, v.right), 36, 0);
-    let c35 = numbers::given_code(!(x.stage == Node::PREPARED), 35, c36);
-    numbers::given_code(nodes::is_pushed(x), 34, c35)
+    let c36 = numbers::pick(nodes::is_unready(x, v.left, v.right), 36, 0);
+    let c35 = numbers::pick(!(x.stage == Node::PREPARED), 35, c36);
+    numbers::pick(nodes::is_pushed(x), 34, c35)
 }
 
 fn kind_code(v: View, r: Request) -> u32
