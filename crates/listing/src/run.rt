@@ -139,6 +139,9 @@ pub(crate) fn run(schedule: &[i32], count: usize, o: Opening, out: &mut [u8]) ->
                 book.nodes[b] = right;
                 book.used = pair + 1;
             }
+            // No step reports or pushes.
+            Change::Report(_) => {}
+            Change::Push => {}
         }
     }
     last(out, end, book, teams)

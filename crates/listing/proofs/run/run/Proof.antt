@@ -444,6 +444,26 @@ loop-less-6 c = omega (arith, more (read (called (from-split (c .before .before 
 loop-again-6 : tie.Need-loop-again-6 Inv-loop μ-loop
 loop-again-6 c = let k = c .before .before .before .before in let m = from-split k in let p = writes m in let f = stores (called m) .split _ (k .before .change4 .given .1) in (p .0, p .1, rw (c .before .before .before .less-by .ensures, c .before .before .left-part .ensures, c .before .right-part .ensures) (f .count), rw (c .before .before .left-part .ensures, c .before .right-part .ensures) (f .run), p .2)
 
+-- no step reports or pushes
+
+enum-told-2 : tie.Need-enum-told-2 Inv-loop μ-loop
+enum-told-2 c = search needs
+
+loop-less-7 : tie.Need-loop-less-7 Inv-loop μ-loop
+loop-less-7 c = omega (arith, more (read (called (c .before .before))))
+
+loop-again-7 : tie.Need-loop-again-7 Inv-loop μ-loop
+loop-again-7 c = let none = stores (called (c .before .before)) .moving in absurd (rw (c .enum-told2 .given .1) at none)
+
+enum-told-3 : tie.Need-enum-told-3 Inv-loop μ-loop
+enum-told-3 c = search needs
+
+loop-less-8 : tie.Need-loop-less-8 Inv-loop μ-loop
+loop-less-8 c = omega (arith, more (read (called (c .before .before))))
+
+loop-again-8 : tie.Need-loop-again-8 Inv-loop μ-loop
+loop-again-8 c = let none = stores (called (c .before .before)) .moving in absurd (rw (c .enum-told3 .given .1) at none)
+
 -- after the last step
 finished : (a : tie.At-loop Inv-loop μ-loop) → a .loop .i ≡ started (ready (a .before)) .args .count
     → let s = started (ready (a .before)) in
@@ -544,6 +564,12 @@ run-spec =
     add-book
     loop-less-6
     loop-again-6
+    enum-told-2
+    loop-less-7
+    loop-again-7
+    enum-told-3
+    loop-less-8
+    loop-again-8
     last-requires
     same-length
     returns)
