@@ -3,8 +3,8 @@
     python3 test/contracts.py
 
 A public function of a library has no `requires` and an `ensures` that is an equation; one whose `requires` or `ensures` has a condition is
-named in the section "Contracts under a condition", on a line '- crate::fn: why', and no other function is. Each call and each edit that
-docs/CONTRACTS.md names is there. Exit status 1 if something is not so.
+named in the section "Contracts under a condition", on a line '- crate::fn: why', and no other function is. Each call that
+docs/CONTRACTS.md names is there, and each must-fail edit that a page of docs/ names. Exit status 1 if something is not so.
 """
 
 import glob
@@ -128,16 +128,23 @@ def faults(found, page):
     for call in re.findall(r'`([A-Z]\w*::\w+)\(', page):
         if call not in owned:
             yield '%s names %s, which is no public function' % (PAGE, call)
-    for crate, label in re.findall(r'`(\w+)/must-fail/(\w+)`', page):
-        if not os.path.isfile(os.path.join('crates', crate, 'must-fail', label + '.edit')):
-            yield '%s names the edit %s/must-fail/%s, which is not there' % (PAGE, crate, label)
+
+
+def missing_edits():
+    """The edits that a page of docs/ or README names, and that are not there."""
+    for path in sorted(glob.glob(os.path.join('docs', '*.md')) + ['README.md']):
+        with open(path, encoding='utf-8') as file:
+            named = re.findall(r'\b(\w+)/must-fail/(\w+)', file.read())
+        for crate, label in named:
+            if not os.path.isfile(os.path.join('crates', crate, 'must-fail', label + '.edit')):
+                yield '%s names the edit %s/must-fail/%s, which is not there' % (path, crate, label)
 
 
 def main():
     os.chdir(HERE)
     found = functions()
     with open(PAGE, encoding='utf-8') as file:
-        told = sorted(set(faults(found, file.read())))
+        told = sorted(set(faults(found, file.read())) | set(missing_edits()))
     for fault in told:
         print('contracts.py: ' + fault)
     print('%d public functions, %d faults' % (len(found), len(told)))

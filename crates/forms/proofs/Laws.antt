@@ -8,11 +8,13 @@ use native.Mathlib.Decide.{decLt}
 use native.Mathlib.Omega.{arith}
 use lib.Dec.{eqb, leb}
 use lib.ListN.{length, length-map}
-use borrow.Author.Tests.{eq-eqb, le-leb, le-ltb}
+use borrow.Author.Tests.{eq-eqb, ne-eqb, le-leb, le-ltb}
 use Rattle.rules.specs.declared.Node.{Node}
 use Rattle.rules.specs.declared.Ledger.{Ledger}
 use Rattle.rules.specs.Limits.{maxUntil, maxTeams, maxNodes, opens}
-use Rattle.rules.specs.WellFormed.{upTo, childRule, numbersRule}
+use Rattle.rules.specs.Nodes.{joinedOf}
+use Rattle.rules.specs.States.{unready}
+use Rattle.rules.specs.WellFormed.{upTo, childRule, stageRule, numbersRule}
 use Rattle.rules.proofs.Facts.{facts}
 
 -- the tests of a ledger's numbers, without those that no unsigned number fails: 0 ≤ start, 0 ≤ until, and the cap of the least run
@@ -49,21 +51,32 @@ upTo-same p q zero h = refl
 upTo-same p q (suc k) h =
     ap₂ _&&_ (upTo-same p q k (λ n a b. h n a (omega arith))) (h (suc k) (omega arith) (omega arith))
 
--- the rule looks at the children only where their numbers can be slots
-pub child-slots : (n used : ℕ) (x : Node) (slot node : ℕ → Node) (s : ℕ)
+-- a childless node's report does not see the children
+childless-stage : (x a b c d : Node) → x .left ≡ 0 → stageRule x a b ≡ stageRule x c d
+unfolding stageRule joinedOf unready
+childless-stage x a b c d e = rw (eq-eqb (x .left) 0 e)
+
+-- a node x by itself, which passes or not, with the children a and b
+abbrev family : Bool → ℕ → ℕ → Node → Node → Node → Bool
+family alone n used x a b = alone && childRule n used x a b && stageRule x a b
+
+-- the rules look at the children only where their numbers can be slots
+pub child-slots : (alone : Bool) (n used : ℕ) (x : Node) (slot node : ℕ → Node) (s : ℕ)
     → used ≤ maxNodes
     → ((i : ℕ) → node (i + 1) ≡ slot i)
     → 1 ≤ s
     → (1 ≤ x .left → x .left < maxNodes → s ≡ x .left)
-    → childRule n used x (slot (s - 1)) (slot s) ≡ childRule n used x (node (x .left)) (node (x .left + 1))
+    → family alone n used x (slot (s - 1)) (slot s) ≡ family alone n used x (node (x .left)) (node (x .left + 1))
 unfolding childRule
-child-slots n used x slot node s small same low is = go (decLt 0 (x .left)) (decLt (x .left) used)
+child-slots alone n used x slot node s small same low is = go (decLt 0 (x .left)) (decLt (x .left) used)
   where
     go : Dec (0 < x .left)
         → Dec (x .left < used)
-        → childRule n used x (slot (s - 1)) (slot s) ≡ childRule n used x (node (x .left)) (node (x .left + 1))
-    go (no z) d = rw (eq-eqb (x .left) 0 (omega arith))
-    go (yes p) (no z) = simp (le-ltb (x .left) used (omega arith), and-false, false-and)
+        → family alone n used x (slot (s - 1)) (slot s) ≡ family alone n used x (node (x .left)) (node (x .left + 1))
+    go (no z) d =
+        let e : x .left ≡ 0 = omega arith in
+        rw (eq-eqb (x .left) 0 e) (ap (λ (t : Bool). (alone && true) && t) (childless-stage x _ _ _ _ e))
+    go (yes p) (no z) = simp (ne-eqb (x .left) 0 (omega arith), le-ltb (x .left) used (omega arith), and-false, false-and)
     go (yes p) (yes q) =
         let e : s ≡ x .left = is p (omega arith) in
         let one : x .left - 1 + 1 ≡ x .left = omega arith in

@@ -60,7 +60,8 @@ fn nodes_ok(l: Ledger) -> bool
         let b = l.nodes[right];
         let alone = nodes::formed::alone_ok(teams, x);
         let child = nodes::formed::child_ok(i + 1, used, x, a, b);
-        ok = ok & (alone & child);
+        let stage = nodes::formed::stage_ok(x, a, b);
+        ok = ok & (alone & child & stage);
         i += 1;
     }
     ok

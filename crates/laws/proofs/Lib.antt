@@ -7,6 +7,7 @@ pub mod Whole
 pub mod Sheets
 pub mod Story
 pub mod Tally
+pub mod Reports
 pub mod Sheet40
 pub mod Once
 pub mod Listed

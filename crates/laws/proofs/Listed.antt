@@ -13,7 +13,8 @@ use Rattle.rules.specs.Nodes.{middle, leftPart, rightPart}
 use Rattle.rules.specs.Opening.{opened, opening}
 use Rattle.rules.specs.States.{stateOf, stolenOf}
 use Rattle.rules.specs.Table.{at, put, nextPair, grown, sumBy, stolenIn}
-use Rattle.rules.specs.WellFormed.{upTo, aloneRule, childRule, nodeRule, leftIs, pairRule, unusedRule, wellFormed}
+use Rattle.rules.specs.Joining.{sameFinds}
+use Rattle.rules.specs.WellFormed.{upTo, aloneRule, childRule, stageRule, nodeRule, leftIs, pairRule, unusedRule, wellFormed}
 use Rattle.rules.specs.Refusals.{ownCode, advanceCode, markCode, expandCode, kindCode, refusal}
 use Rattle.rules.specs.Requests.{owning, batchEnd, advancing, marking, expanding, looking, granted, decided, view, changed, answered, requested}
 use Rattle.rules.proofs.Record.{rules}
@@ -39,5 +40,5 @@ listed-lists l bs s =
     listed-lists-at l bs (l .used) (r .tree) (rooted-size l r)
 
 pub listed-examples : ListedExamples
-unfolding listed grantedFrom sheets opening opened opens batches batchOf isClaim requested wellFormed middle leftPart rightPart stateOf stolenOf at put nextPair grown sumBy stolenIn upTo aloneRule childRule nodeRule leftIs pairRule unusedRule ownCode advanceCode markCode expandCode kindCode refusal owning batchEnd advancing marking expanding looking granted decided view changed answered
+unfolding listed grantedFrom sheets opening opened opens batches batchOf isClaim requested wellFormed middle leftPart rightPart stateOf stolenOf at put nextPair grown sumBy stolenIn upTo aloneRule childRule stageRule sameFinds nodeRule leftIs pairRule unusedRule ownCode advanceCode markCode expandCode kindCode refusal owning batchEnd advancing marking expanding looking granted decided view changed answered
 listed-examples = record { new = refl; in-order = refl; granted = refl; whole = refl }

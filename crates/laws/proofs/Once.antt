@@ -119,7 +119,7 @@ module _ (s : ℕ) (l : Ledger) (w : WF l) (n : ℕ) (used : InUse l n) where
       blank
       (λ g. record {
         leaf = sym (h .left) ∙ g .leaf;
-        low = omega (arith, g .low, h .forward (w .alone n used .high));
+        low = omega (arith, g .low, h .forward (w .node n used .alone .high));
         high = omega (arith, g .high, h .until);
       })
       (λ g. absurd (free-blank s g))
@@ -133,7 +133,7 @@ module _ (s : ℕ) (l : Ledger) (w : WF l) (n : ℕ) (used : InUse l n) where
       x
       (leftPart x)
       (rightPart x)
-      (λ g. record { leaf = f .leaf; low = g .low; high = omega (arith, g .high, w .alone n used .high) })
+      (λ g. record { leaf = f .leaf; low = g .low; high = omega (arith, g .high, w .node n used .alone .high) })
       (λ g. record { leaf = f .leaf; low = omega (arith, g .low); high = g .high })
       (λ g h. omega (arith, g .high, h .low))
 
@@ -149,7 +149,7 @@ becomes-free {l} {n = n} s w (put-there y u h) = omega (arith, less-free s l w n
 becomes-free {l} {n = n} s w (forked u f) = split-free s l w n u f
 
 requested-free : (s : ℕ) (l : Ledger) (r : Request) → WF l → freeAt s (requested l r .ledger) ≤ freeAt s l
-requested-free s l r w = rw (requested-wf l r w) (becomes-free s w (becomes-of l r))
+requested-free s l r w = rw (requested-wf l r w) (becomes-free s w (becomes-of l r w))
 
 run-free : (s : ℕ) (l : Ledger) (rs : List Request) → WF l → freeAt s (afterAll l rs) ≤ freeAt s l
 unfolding afterAll

@@ -52,7 +52,7 @@ here-onward {l} {n = n} w same = stay (at l n)
 here-onward {l} {n = n} w (stored y u h) =
     rw
     (at-same l n y (u .low) (in-table l w n u))
-    (record { start = h .start; until = h .until; forward = h .forward (w .alone n u .high); owner = h .owner; stands = h .stands })
+    (record { start = h .start; until = h .until; forward = h .forward (w .node n u .alone .high); owner = h .owner; stands = h .stands })
 here-onward {l} {n = n} w (forked u f) =
     rw
     (split-slots l w n u f .here)
@@ -71,7 +71,7 @@ becomes-later {l} {k} {n} w good s = record { wf = good; used = still-used w s; 
     go m u (no ne) = rw (others w s m u ne) (stay (at l m))
 
 pub requested-later : (l : Ledger) (r : Request) → WF l → Later l (requested l r .ledger)
-requested-later l r w = rw (requested-wf l r w) (becomes-later w (wf-answered l r w) (becomes-of l r))
+requested-later l r w = rw (requested-wf l r w) (becomes-later w (wf-answered l r w) (becomes-of l r w))
 
 later-twice : (l k j : Ledger) → Later l k → Later k j → Later l j
 later-twice l k j a b =

@@ -32,7 +32,7 @@ pub run-range : (l : Ledger) (rs : List Request) → WF l → SameRange l (after
 unfolding afterAll
 run-range l [] w = record { start = refl; until = refl; teams = refl }
 run-range l (r ∷ rs) w =
-    let one : SameRange l (requested l r .ledger) = rw (requested-wf l r w) (becomes-range (becomes-of l r)) in
+    let one : SameRange l (requested l r .ledger) = rw (requested-wf l r w) (becomes-range (becomes-of l r w)) in
     let all = run-range (requested l r .ledger) rs (requested-good l r w) in
     record { start = all .start ∙ one .start; until = all .until ∙ one .until; teams = all .teams ∙ one .teams }
 

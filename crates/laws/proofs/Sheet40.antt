@@ -116,7 +116,7 @@ split-starts-at-mark l r sized g =
       left-until = refl;
       right-start = refl;
       right-until = refl;
-      exactly = sheets-join _ _ _ (omega arith) (omega (arith, w .alone (nodeIn r) u .high));
+      exactly = sheets-join _ _ _ (omega arith) (omega (arith, w .node (nodeIn r) u .alone .high));
     })
 
 -- the new nodes are in use, and whatever follows their ranges stay: one of the two has the position
@@ -157,7 +157,7 @@ module _ (l : Ledger) (r : Request) (later : List Request) (w : WF l) (g : Split
       b = new-onward (left + 1) (new .right-used)
 
       unclaimed : s < x .until
-      unclaimed = omega (arith, w .alone (nodeIn r) (in-use l r (p .asked)) .some-left (p .facts .mark))
+      unclaimed = omega (arith, w .node (nodeIn r) (in-use l r (p .asked)) .alone .some-left (p .facts .mark))
 
       go : Dec (s < middle x)
           → InNode s (at next left) ⊎ InNode s (at next (left + 1))
@@ -196,7 +196,7 @@ module _ (l : Ledger) (claim steal : Request) (between : List Request) (sized : 
       passed =
           let h = c .facts .here in
           omega
-          (arith, h .position-is, c .facts .end, c .facts .amount .low, h .more, w .alone n (in-use l claim (c .asked)) .high)
+          (arith, h .position-is, c .facts .end, c .facts .amount .low, h .more, w .node n (in-use l claim (c .asked)) .alone .high)
 
       inside : InBatch (natOf (claim .position)) (requested l claim .answer)
       inside = rw (c .answer) (record { low = omega (arith, c .facts .here .position-is); high = passed })

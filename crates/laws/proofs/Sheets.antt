@@ -42,7 +42,7 @@ module _ (o : Opening) (rs : List Request) (good : opens o ≡ true) where
   once =
       let w = after-whole .wf in
       let r = run-range l rs (opened-wf o good) in
-      root-lists (afterAll l rs) (batches l rs) _ _ after-whole (w .root-start ∙ r .start) (w .root-until ∙ r .until)
+      root-lists (afterAll l rs) (batches l rs) _ _ after-whole (w .root .start ∙ r .start) (w .root .until ∙ r .until)
 
 pub each-one-listing : OneListing
 each-one-listing l bs n xs ys = one-listing

@@ -40,17 +40,17 @@ module _ (l : Ledger) (bs : List Batch) (h : Whole l bs) where
 
   ends-whole : (n : ℕ) → InUse l n → grantedFrom bs n ++ unclaimedOf (at l n) ≡ ranged-of n
   ends-whole n u =
-      let a = h .wf .alone n u in
+      let a = h .wf .node n u .alone in
       rw (h .given n u) (sheets-join _ _ _ (a .low) (a .high))
 
   parts-whole : (n c : ℕ) → InUse l n → 0 < c → at l n .left ≡ c
       → grantedFrom bs n ++ (ranged-of c ++ ranged-of (c + 1)) ≡ ranged-of n
   unfolding middle
   parts-whole n c u some e =
-      let a = h .wf .alone n u in
-      let p = rw e at (h .wf .pair n u (omega arith)) in
+      let a = h .wf .node n u .alone in
+      let p = rw e at (h .wf .node n u .pair (omega arith)) in
       rw
-      (h .given n u, p .left-start, p .left-until, p .right-start, p .right-until, sheets-join (positionOf (at l n)) (middle (at l n)) (at l n .until) (omega arith) (omega (arith, a .high)))
+      (h .given n u, p .left .start, p .left .until, p .right .start, p .right .until, sheets-join (positionOf (at l n)) (middle (at l n)) (at l n .until) (omega arith) (omega (arith, a .high)))
       (sheets-join _ _ _ (a .low) (a .high))
 
   lists : {n : ℕ} → Tree l n → Lists l bs n (ranged-of n)
@@ -88,7 +88,7 @@ module _ (l : Ledger) (bs cs : List Batch) (n : ℕ) (y : Node) (h : Whole l bs)
   stored-given m v (yes e) =
       rw
       (e, same, here, h .given n u, kept .start)
-      (sheets-join _ _ _ (h .wf .alone n u .low) (kept .forward (h .wf .alone n u .high)))
+      (sheets-join _ _ _ (h .wf .node n u .alone .low) (kept .forward (h .wf .node n u .alone .high)))
   stored-given m v (no ne) = rw (at-other l n y (u .low) m (v .low) ne, there m ne) (h .given m v)
 
   pub stored-whole : Whole (put l n y) cs
@@ -161,8 +161,8 @@ moved-whole l bs r h q f good =
 -- the facts of a change, with what the answer grants
 effect-whole : {l : Ledger} {bs : List Batch} {r : Request} {a : Answered} → Whole l bs → WF (a .ledger) → Effect l r a
     → Whole (a .ledger) (batchOf r (a .answer) ++ bs)
-effect-whole {r = r} h good (rests {a = a} q) = rw (no-batch r a (q .no-claim)) h
-effect-whole {l} {bs} {r} h good (stores {a = a} y q u kept e) =
+effect-whole {r = r} h good (rests {a = a} q t) = rw (no-batch r a (q .no-claim)) h
+effect-whole {l} {bs} {r} h good (stores {a = a} y q u kept e t) =
     rw (no-batch r a (q .no-claim)) (still-whole l bs (nodeIn r) y h u good kept e)
 effect-whole {l} {bs} {r} h good (claims is q f) =
     let x = at l (nodeIn r) in
@@ -173,7 +173,7 @@ effect-whole {l} {bs} {r} h good (splits is q f) =
 pub requested-whole : (l : Ledger) (bs : List Batch) (r : Request) → Whole l bs
     → Whole (requested l r .ledger) (batchOf r (requested l r .answer) ++ bs)
 requested-whole l bs r h =
-    rw (requested-wf l r (h .wf)) (effect-whole h (wf-answered l r (h .wf)) (effect-of l r))
+    rw (requested-wf l r (h .wf)) (effect-whole h (wf-answered l r (h .wf)) (effect-of l r (h .wf)))
 
 -- any list of requests
 pub run-whole : (l : Ledger) (bs : List Batch) (rs : List Request) → Whole l bs → Whole (afterAll l rs) (batches l rs ++ bs)

@@ -2,5 +2,6 @@
 pub mod Listing
 pub mod Sheets
 pub mod Story
+pub mod Reports
 pub mod Sheet40
 pub mod Listed

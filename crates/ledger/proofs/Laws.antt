@@ -8,18 +8,20 @@ use lib.IntN.{pos}
 use lib.ListN.{set, replicate}
 use Rattle.numbers.specs.Fields.{natOf}
 use Rattle.numbers.specs.Progress.{mark}
+use Rattle.rules.specs.declared.Finds.{Finds}
 use Rattle.rules.specs.declared.Node.{Node}
 use Rattle.rules.specs.declared.Ledger.{Ledger}
 use Rattle.rules.specs.declared.Opening.{Opening}
 use Rattle.rules.specs.Limits.{maxUntil, maxNodes, slotsAfter, opens}
 use Rattle.rules.proofs.Facts.{both}
 use Rattle.rules.proofs.Opens.{opens-facts}
-use Rattle.rules.specs.Nodes.{blank, fresh, owned, moved, parted, middle, leftPart, rightPart}
+use Rattle.rules.specs.Nodes.{blank, fresh, owned, moved, parted, reported, pushed, middle, leftPart, rightPart, joinedOf}
 use Rattle.rules.specs.Opening.{opened, ledgerOf}
 use Rattle.rules.specs.Table.{at, put, grown}
 use Rattle.rules.specs.WellFormed.{numbersRule, wellFormed}
-use Rattle.nodes.specs.Makers.{heldAdvanced, heldMarked, heldRight}
-use Rattle.nodes.proofs.Makers.{advanced-within, marked-within, right-within}
+use Rattle.finds.specs.Held.{mostHeld}
+use Rattle.nodes.specs.Makers.{heldAdvanced, heldMarked, heldRight, heldPushed}
+use Rattle.nodes.proofs.Makers.{advanced-within, marked-within, right-within, pushed-within}
 
 -- an opening within its limits starts within them
 pub start-small : (o : Opening) → opens o ≡ true → natOf (o .start) ≤ maxUntil
@@ -65,3 +67,11 @@ module _ (l : Ledger) (n : ℕ) {m : Ledger} {x : Node} where
       → m ≡ grown (put (put (put l n (parted x c)) c (leftPart x)) (c + 1) (heldRight x)) c
       → m ≡ grown (put (put (put l n (parted (at l n) c)) c (leftPart (at l n))) (c + 1) (rightPart (at l n))) c
   split-put c small ex em = em ∙ rw (ex, right-within (at l n) small)
+
+  pub reported-put : {y : Node} {f : Finds} → x ≡ at l n → y ≡ reported x f → m ≡ put l n y → m ≡ put l n (reported (at l n) f)
+  reported-put ex ey em = em ∙ rw (ey, ex)
+
+  pub pushed-put : joinedOf (at l n) (at l (at l n .left)) (at l (at l n .left + 1)) .count ≤ mostHeld → x ≡ at l n
+      → m ≡ put l n (heldPushed x (at l (x .left)) (at l (x .left + 1)))
+      → m ≡ put l n (pushed (at l n) (joinedOf (at l n) (at l (at l n .left)) (at l (at l n .left + 1))))
+  pushed-put small ex em = em ∙ rw (ex, pushed-within (at l n) (at l (at l n .left)) (at l (at l n .left + 1)) small)

@@ -8,10 +8,11 @@ use Rattle.rules.specs.Limits.{maxUntil}
 use Rattle.rules.specs.Nodes.{positionOf, middle}
 use Rattle.rules.specs.Requests.{decided, view, nodeIn}
 use Rattle.rules.specs.Table.{InUse, at}
-use Rattle.rules.proofs.Changed.{Changes, keeps, owns, advances, marks, splits, changes}
+use Rattle.rules.proofs.Changed.{Changes, keeps, owns, advances, marks, splits, reports, pushes, changes}
+use Rattle.rules.proofs.FindsFit.{joined-fits}
 use Rattle.rules.proofs.Range.{within-range}
 use Rattle.rules.proofs.Spare.{spare, pair-fits}
-use Rattle.rules.proofs.Record.{WF, used-high}
+use Rattle.rules.proofs.Record.{WF, used-high, sound}
 use Rattle.ledger.specs.Slots.{IsSlot, Stores}
 
 module _ (l : Ledger) (w : WF l) (n : ℕ) where
@@ -22,13 +23,13 @@ module _ (l : Ledger) (w : WF l) (n : ℕ) where
   until-high u = omega (arith, within-range l w n u .high, w .limits .until-limit)
 
   position-high : InUse l n → positionOf (at l n) ≤ maxUntil
-  position-high u = omega (arith, w .alone n u .high, until-high u)
+  position-high u = omega (arith, w .node n u .alone .high, until-high u)
 
   middle-high : InUse l n → middle (at l n) ≤ maxUntil
   unfolding middle
   middle-high u = omega (arith, position-high u, until-high u)
 
-  pub in-limits : {c : Change} → Changes l n c → Stores n (at l n) c
+  pub in-limits : {c : Change} → Changes l n c → Stores l n c
   in-limits keeps = tt
   in-limits (owns u) = in-slot u
   in-limits (advances u plain inside) = (in-slot u, omega (arith, until-high u))
@@ -38,6 +39,10 @@ module _ (l : Ledger) (w : WF l) (n : ℕ) where
       let high = pair-fits l w n u s in
       let most = w .slots in
       (in-slot u, (omega arith, omega arith), (omega arith, omega arith), middle-high u)
+  in-limits (reports u) = in-slot u
+  in-limits (pushes u k) =
+      let fits = joined-fits l n (sound l w) u in
+      (in-slot u, omega (arith, used-high l w))
 
-pub request-stores : (l : Ledger) → WF l → (r : Request) → Stores (nodeIn r) (at l (nodeIn r)) (decided (view l (nodeIn r)) r .change)
+pub request-stores : (l : Ledger) → WF l → (r : Request) → Stores l (nodeIn r) (decided (view l (nodeIn r)) r .change)
 request-stores l w r = in-limits l w (nodeIn r) (changes l r)

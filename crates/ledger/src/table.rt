@@ -8,7 +8,7 @@ ghost use Rattle.rules.specs.Nodes.{blank, parted, leftPart};
 ghost use Rattle.rules.specs.Table.{at, put, grown};
 ghost use Rattle.rules.specs.Requests.{view, changed};
 ghost use Rattle.rules.specs.Count.{unclaimed};
-ghost use Rattle.nodes.specs.Makers.{heldRight};
+ghost use Rattle.nodes.specs.Makers.{heldRight, heldPushed};
 ghost use Rattle.ledger.specs.Slots.{IsSlot, Stores};
 ghost use Rattle.ledger.specs.Table.{slotFor, nodeFor, viewBy};
 use rules::Change;
@@ -108,14 +108,20 @@ pub(crate) fn unclaimed_in(l: Ledger) -> u64
     k
 }
 
+// Node n stands in slot n - 1, so the slot after the left child's has the left child's number.
+fn right_of(l: Ledger, x: Node) -> Node
+    ensures { λ y. ⌜ y ≡ at l (x .left + 1) ⌝ }
+{
+    node_in(l, x.left as usize)
+}
+
 pub(crate) fn view_of(l: Ledger, n: u32) -> View
     requires { ⌜ l .used ≤ maxNodes ⌝ }
     ensures { λ v. ⌜ v ≡ view l n ⌝ }
 {
     let x = node_at(l, n);
     let left = node_at(l, x.left);
-    // Node n stands in slot n - 1, so the slot after the left child's has the left child's number.
-    let right = node_in(l, x.left as usize);
+    let right = right_of(l, x);
     let k = forms::stolen_in(l);
     View {
         teams: l.teams,
@@ -139,8 +145,17 @@ fn split_at(l: Ledger, n: u32, x: Node, pair: u32) -> Ledger
     with_pair_used(three, pair)
 }
 
+fn push_at(l: Ledger, n: u32, x: Node) -> Ledger
+    requires { ⌜ IsSlot n ⌝ }
+    ensures { λ m. ⌜ m ≡ put l n (heldPushed x (at l (x .left)) (at l (x .left + 1))) ⌝ }
+{
+    let left = node_at(l, x.left);
+    let right = right_of(l, x);
+    with_node(l, n, nodes::pushed_by(x, left, right))
+}
+
 pub(crate) fn changed_by(l: Ledger, n: u32, c: Change) -> Ledger
-    requires { ⌜ Stores n (at l n) c ⌝ }
+    requires { ⌜ Stores l n c ⌝ }
     ensures { λ m. ⌜ m ≡ changed l n c ⌝ }
 {
     let x = node_at(l, n);
@@ -150,5 +165,7 @@ pub(crate) fn changed_by(l: Ledger, n: u32, c: Change) -> Ledger
         Change::Advance(p) => with_node(l, n, nodes::advanced_to(x, p)),
         Change::Mark(p) => with_node(l, n, nodes::marked_at(x, p)),
         Change::Split(pair) => split_at(l, n, x, pair),
+        Change::Report(f) => with_node(l, n, nodes::reported_by(x, f)),
+        Change::Push => push_at(l, n, x),
     }
 }

@@ -27,14 +27,13 @@ pub(crate) fn opened(start: i32, until: i32, teams: i32, nodes: i32) -> Ledger {
     l
 }
 
+// A node of which nothing is reported; an empty one is pushed.
 pub(crate) fn node(start: u32, until: u32, progress: i32, owner: u32, left: u32) -> Node {
-    Node {
-        start: start,
-        until: until,
-        progress: progress,
-        owner: owner,
-        left: left,
-    }
+    let mut x = nodes::fresh_node(start, until);
+    x.progress = progress;
+    x.owner = owner;
+    x.left = left;
+    x
 }
 
 // The ledger with another node n, whatever the rules say.
@@ -65,7 +64,7 @@ pub(crate) fn after(
     position: i32,
     amount: i32,
 ) -> Ledger {
-    let done = ledger::request(l, Request::new(kind, team, node, position, amount));
+    let done = ledger::request(l, Request::new(kind, team, node, position, amount, 0, 0, 0));
     let m = done.ledger;
     m
 }
@@ -79,7 +78,7 @@ pub(crate) fn show(
     position: i32,
     amount: i32,
 ) -> Ledger {
-    let r = Request::new(kind, team, node, position, amount);
+    let r = Request::new(kind, team, node, position, amount, 0, 0, 0);
     let done = ledger::request(l, r);
     let m = done.ledger;
     let a = done.answer;

@@ -3,12 +3,13 @@
 use crate::ask;
 use crate::print;
 use rules::Ledger;
+use rules::Node;
 use rules::Request;
 
 // Prints the number of the rule that is broken, 0 for none, the ledger's numbers and a node of it, whether it is well formed, what a look
 // answers, and the count.
 fn show(rule: u32, l: Ledger, node: i32) {
-    let done = ledger::request(l, Request::new(ask::LOOK, 1, 1, 0, 0));
+    let done = ledger::request(l, Request::new(ask::LOOK, 1, 1, 0, 0, 0, 0, 0));
     let a = done.answer;
     print::text(b"rule");
     print::number(rule);
@@ -140,16 +141,23 @@ fn crossed() {
     show(9, l, 5);
 }
 
+// An unused slot of these numbers, at no stage.
+fn slot(n: i32, start: u32, until: u32, progress: i32, owner: u32, left: u32) {
+    let mut x = ask::node(start, until, progress, owner, left);
+    x.stage = Node::UNREPORTED;
+    show(13, ask::with(ask::halved(7), n, x), n);
+}
+
 // 13: "unused slots are all 0", those past the table room too.
 fn unused() {
-    family(13, 4, 1, 0, 0, 0, 0);
-    family(13, 4, 0, 1, 0, 0, 0);
-    family(13, 4, 0, 0, 1, 0, 0);
-    family(13, 4, 0, 0, -1, 0, 0);
-    family(13, 4, 0, 0, 0, 1, 0);
-    family(13, 4, 0, 0, 0, 0, 1);
-    family(13, 8, 0, 1, 0, 0, 0);
-    family(13, 1023, 0, 0, -2147483648, 0, 0);
+    slot(4, 1, 0, 0, 0, 0);
+    slot(4, 0, 1, 0, 0, 0);
+    slot(4, 0, 0, 1, 0, 0);
+    slot(4, 0, 0, -1, 0, 0);
+    slot(4, 0, 0, 0, 1, 0);
+    slot(4, 0, 0, 0, 0, 1);
+    slot(8, 0, 1, 0, 0, 0);
+    slot(1023, 0, 0, -2147483648, 0, 0);
 }
 
 // 1 comes before every other code.

@@ -5,7 +5,7 @@ use rules::Request;
 
 // Team 1 owns the node, team 32 marks it where it begins, and splits it.
 fn parted(l: Ledger, n: i32) -> Ledger {
-    let owned = ledger::request(l, Request::new(ask::OWN, 1, n, 0, 0));
+    let owned = ledger::request(l, Request::new(ask::OWN, 1, n, 0, 0, 0, 0, 0));
     let one = owned.ledger;
     let a = owned.answer;
     let two = ask::after(one, ask::MARK, 32, n, numbers::to_signed(a.from), 0);

@@ -10,7 +10,7 @@ fn any(first: u32, then: u32, kind: i32, team: i32, node: i32) {
 // The tests of every request.
 fn common() {
     any(2, 0, 0, 1, 1);
-    any(2, 0, 6, 1, 1);
+    any(2, 0, 8, 1, 1);
     any(2, 0, -2147483648, 1, 1);
     any(2, 0, 2147483647, 1, 1);
     any(3, 0, ask::LOOK, 0, 1);

@@ -49,6 +49,8 @@ fn change(x: Node, c: Change) {
             print::node(nodes::left_part(x));
             print::node(nodes::right_part(x));
         }
+        Change::Report(f) => stored(nodes::reported_by(x, f)),
+        Change::Push => print::text(b" push"),
     }
 }
 
@@ -65,7 +67,7 @@ fn expand(nodes: u32, used: u32, x: Node) {
         left: none,
         right: none,
     };
-    let o = requests::decide(v, Request::new(ask::EXPAND, 2, 1, 0, 0));
+    let o = requests::decide(v, Request::new(ask::EXPAND, 2, 1, 0, 0, 0, 0, 0));
     let a = o.answer;
     let c = o.change;
     print::text(b"expand with nodes");

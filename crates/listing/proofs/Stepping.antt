@@ -38,7 +38,7 @@ use Rattle.steps.specs.Turn.{asks, moves, still, turning, turned, carried}
 use Rattle.steps.specs.Run.{Run, stepTeam, runSteps}
 use Rattle.steps.proofs.Fits.{Fit}
 use Rattle.steps.proofs.Runs.{opened-used}
-use Rattle.steps.proofs.Turns.{turn-alone, step-turn, asks-node}
+use Rattle.steps.proofs.Turns.{Moving, turn-moves, turn-alone, step-turn, asks-node}
 use Rattle.places.specs.Clipped.{Limited}
 use Rattle.teams.specs.Clipped.{clippedTurn, Ready}
 use Rattle.teams.proofs.Laws.{in-limits, unclipped-turn}
@@ -146,6 +146,8 @@ pub record Arms (cap : ℕ) (u : Run) (s : List ℤ) (l : Ledger) (rs : List Tea
   pub pair : (p : ℕ) → c ≡ Split p → (1 ≤ p) × (p + 1 ≤ maxNodes)
   pub split : (p : ℕ) → c ≡ Split p
       → Goes cap u s (with-nodes l (p + 1) (set (set (set (l .nodes) place (parted (getD (l .nodes) place blank) p)) (p - 1) (leftPart (getD (l .nodes) place blank))) (p - 1 + 1) (heldRight (getD (l .nodes) place blank)))) rs (stolen - 1)
+  -- no step reports or pushes
+  pub moving : Moving c
 
 module _ {o : Opening} {cap : ℕ} {u : Run} (b : Begun o cap u) (s : List ℤ) (i : ℕ) (less : i < length s) (l : Ledger) (rs : List Team)
     (inv : runWith l rs ≡ runFrom (pos cap) u (take i s)) (mine : within (getD s i (pos 0)) 1 (natOf (o .teams)) ≡ true) where
@@ -159,7 +161,7 @@ module _ {o : Opening} {cap : ℕ} {u : Run} (b : Begun o cap u) (s : List ℤ) 
   stand = here b (take i s) l rs inv
 
   -- the team has a record
-  pub seat-inside : slotOf number < 32
+  pub seat-inside : slotOf number < maxTeams
   seat-inside =
       let h = within-true number 1 (natOf (o .teams)) mine in
       let w = stand .wf in
@@ -217,6 +219,7 @@ module _ {o : Opening} {cap : ℕ} {u : Run} (b : Begun o cap u) (s : List ℤ) 
         mark = λ p e. goes e (rw (at-place, ec) (marked-in l w n p (by-turn e)));
         pair = λ p e. split-room l w n p (by-turn e);
         split = λ p e. goes e (rw (at-place, ec) (split-in l w n p (by-turn e)));
+        moving = rw et (turn-moves (natOf number) cap (recordOf rs number) (view l n));
       }
     where
       w : WF l

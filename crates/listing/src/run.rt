@@ -3,6 +3,7 @@ ghost use mathlib.Core.Path.{_≡_};
 ghost use mathlib.Core.Bool.{true, cond};
 ghost use Prim.Native.Nat.{_+_, _≤_};
 ghost use lib.ListN.{length, take, replicate};
+ghost use Rattle.rules.specs.Limits.{maxTeams};
 ghost use Rattle.rules.specs.WellFormed.{wellFormed};
 ghost use Rattle.steps.specs.Records.{freshTeam, isStopped};
 ghost use Rattle.steps.specs.Step.{slotOf};
@@ -22,7 +23,7 @@ use steps::Place;
 use steps::Team;
 
 fn fresh_teams() -> [Team; Team::RECORDS]
-    ensures { λ r. ⌜ r ≡ replicate 32 freshTeam ⌝ }
+    ensures { λ r. ⌜ r ≡ replicate maxTeams freshTeam ⌝ }
 {
     let t = Team::fresh();
     [t; Team::RECORDS]
@@ -51,7 +52,7 @@ fn stopped_one(t: Team) -> u32
 }
 
 fn stopped_in(teams: [Team; Team::RECORDS], count: u32) -> u32
-    requires { ⌜ count ≤ 32 ⌝ }
+    requires { ⌜ count ≤ maxTeams ⌝ }
     ensures { λ r. ⌜ r ≡ stoppedTo teams count ⌝ }
 {
     let mut k: u32 = 0;
@@ -67,7 +68,7 @@ fn stopped_in(teams: [Team; Team::RECORDS], count: u32) -> u32
 
 // The left line, after the last step.
 fn last(out: &mut [u8], at: usize, book: Ledger, teams: [Team; Team::RECORDS]) -> usize
-    requires { ⌜ (at + length (text (lastLine (runWith book teams))) ≤ length (now out)) × (wellFormed book ≡ true) × (book .teams ≤ 32) ⌝ }
+    requires { ⌜ (at + length (text (lastLine (runWith book teams))) ≤ length (now out)) × (wellFormed book ≡ true) × (book .teams ≤ maxTeams) ⌝ }
     ensures { λ r. ⌜ Put (now (out .entry)) at (text (lastLine (runWith book teams))) r (now (out .exit)) ⌝ }
 {
     let unclaimed = ledger::count(book);
@@ -139,6 +140,9 @@ pub(crate) fn run(schedule: &[i32], count: usize, o: Opening, out: &mut [u8]) ->
                 book.nodes[b] = right;
                 book.used = pair + 1;
             }
+            // No step reports or pushes.
+            Change::Report(_) => {}
+            Change::Push => {}
         }
     }
     last(out, end, book, teams)

@@ -104,18 +104,18 @@ module _ (l : Ledger) (w : WF l) (q : Request) (team : ℤ) (is : natOf team ≡
   small a = omega (arith, within-range l w n (in-use l q a) .high, w .limits .until-limit)
 
   noted : {a : Answered} → Effect l q a → Told a
-  noted (rests h) = quiet-noted _ h
-  noted (stores y h u kept e) = quiet-noted _ h
+  noted (rests h e) = quiet-noted _ h
+  noted (stores y h u kept e told) = quiet-noted _ h
   noted (claims k a f) =
       unfold noteOf batchOf isClaim in
       (rw (k, ← is, positive)
-      (batch-noted (natOf team) n (positionOf (at l n)) (batchEnd (at l n) q) (omega (arith, a .team .high, w .limits .teams-high)) (omega (arith, a .node .high, used-high l w)) (omega (arith, w .alone n (in-use l q a) .high, small a)) (omega (arith, f .end, small a))))
+      (batch-noted (natOf team) n (positionOf (at l n)) (batchEnd (at l n) q) (omega (arith, a .team .high, w .limits .teams-high)) (omega (arith, a .node .high, used-high l w)) (omega (arith, w .node n (in-use l q a) .alone .high, small a)) (omega (arith, f .end, small a))))
   noted (splits k a f) =
       unfold noteOf batchOf isClaim in
-      (rw k (split-noted n (nextPair l) (middle (at l n)) (omega (arith, a .node .high, used-high l w)) (omega (arith, pair-room l w n (in-use l q a) f, w .limits .room-high)) (unfold middle in (omega (arith, w .alone n (in-use l q a) .high, small a)))))
+      (rw k (split-noted n (nextPair l) (middle (at l n)) (omega (arith, a .node .high, used-high l w)) (omega (arith, pair-room l w n (in-use l q a) f, w .limits .room-high)) (unfold middle in (omega (arith, w .node n (in-use l q a) .alone .high, small a)))))
 
   request-noted : Told (requested l q)
-  request-noted = rw (requested-wf l q w) (noted (effect-of l q))
+  request-noted = rw (requested-wf l q w) (noted (effect-of l q w))
 
 -- ---- a step
 

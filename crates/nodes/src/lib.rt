@@ -1,9 +1,10 @@
 // One node: what it is, and each way to make one.
 ghost use mathlib.Core.Path.{_≡_};
-ghost use Rattle.rules.specs.Nodes.{blank, owned, moved, parted, positionOf, leftOver, marked, unowned, childless, middle, leftPart};
-ghost use Rattle.rules.specs.States.{completed, stateOf, stolenOf};
+ghost use Rattle.rules.specs.Nodes.{blank, owned, moved, parted, reported, positionOf, leftOver, marked, unowned, childless, middle, leftPart};
+ghost use Rattle.rules.specs.States.{completed, stateOf, stolenOf, ended, isPushed, unready};
 ghost use Rattle.rules.specs.Count.{restOf};
-ghost use Rattle.nodes.specs.Makers.{heldFresh, heldAdvanced, heldMarked, heldRight};
+ghost use Rattle.nodes.specs.Makers.{heldFresh, heldAdvanced, heldMarked, heldRight, partOf, heldPushed};
+use rules::Finds;
 use rules::Node;
 
 pub mod formed;
@@ -77,29 +78,70 @@ pub fn rest_of(x: Node) -> u32
     numbers::pick(is_childless(x), left_over(x), 0)
 }
 
+// Whether the node's work has ended: COMPLETED, STOLEN or EXPANDED.
+pub fn is_ended(x: Node) -> bool
+    ensures { λ r. ⌜ r ≡ ended x ⌝ }
+{
+    is_completed(x) | is_marked(x)
+}
+
+pub fn is_pushed(x: Node) -> bool
+    ensures { λ r. ⌜ r ≡ isPushed x ⌝ }
+{
+    x.stage == Node::PUSHED
+}
+
+// Whether the node, with the children a and b, cannot be pushed yet.
+pub fn is_unready(x: Node, a: Node, b: Node) -> bool
+    ensures { λ r. ⌜ r ≡ unready x a b ⌝ }
+{
+    let both = is_pushed(a) & is_pushed(b);
+    !is_completed(x) & (is_childless(x) | !both)
+}
+
+// What a child adds to the joined result of the node: nothing where the node has no children.
+fn part_of(x: Node, child: Node) -> Finds
+    ensures { λ r. ⌜ r ≡ partOf x child ⌝ }
+{
+    if is_childless(x) {
+        finds::none()
+    } else {
+        child.joined
+    }
+}
+
 pub fn blank_node() -> Node
     ensures { λ r. ⌜ r ≡ blank ⌝ }
 {
+    let none = finds::none();
     Node {
         start: 0,
         until: 0,
         progress: 0,
         owner: 0,
         left: 0,
+        own: none,
+        joined: none,
+        stage: Node::UNREPORTED,
     }
 }
 
-// A start past the limits is no progress, and is never asked for: the largest progress stands in for it.
+// A start past the limits is no progress, and is never asked for: the largest progress stands in for it. An empty node is made pushed.
 pub fn fresh_node(a: u32, b: u32) -> Node
     ensures { λ r. ⌜ r ≡ heldFresh a b ⌝ }
 {
     let p = numbers::to_signed(a);
+    let none = finds::none();
+    let stage = numbers::pick(a == b, Node::PUSHED, Node::UNREPORTED);
     Node {
         start: a,
         until: b,
         progress: p,
         owner: 0,
         left: 0,
+        own: none,
+        joined: none,
+        stage: stage,
     }
 }
 
@@ -152,4 +194,25 @@ pub fn right_part(x: Node) -> Node
     ensures { λ r. ⌜ r ≡ heldRight x ⌝ }
 {
     fresh_node(middle_of(x), x.until)
+}
+
+// The node, prepared with its own result.
+pub fn reported_by(x: Node, f: Finds) -> Node
+    ensures { λ r. ⌜ r ≡ reported x f ⌝ }
+{
+    let mut y = x;
+    y.own = f;
+    y.stage = Node::PREPARED;
+    y
+}
+
+// The node, pushed with its own result and those of its children a and b joined.
+pub fn pushed_by(x: Node, a: Node, b: Node) -> Node
+    ensures { λ r. ⌜ r ≡ heldPushed x a b ⌝ }
+{
+    let f = finds::join_held(x.own, part_of(x, a), part_of(x, b));
+    let mut y = x;
+    y.joined = f;
+    y.stage = Node::PUSHED;
+    y
 }

@@ -78,7 +78,7 @@ pub(crate) fn ask(
 ) -> Lesson {
     let l = s.ledger;
     let had = s.granted;
-    let done = ledger::request(l, Request::new(kind, team, node, position, amount));
+    let done = ledger::request(l, Request::new(kind, team, node, position, amount, 0, 0, 0));
     let next = done.ledger;
     let a = done.answer;
     on(

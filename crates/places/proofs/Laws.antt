@@ -9,7 +9,7 @@ use lib.IntN.{ℤ, pos}
 use borrow.Author.Tests.{ne-eqb}
 use Rattle.numbers.proofs.Laws.{signed-is}
 use Rattle.rules.specs.declared.Answer.{Answer}
-use Rattle.rules.specs.Asks.{OWN, ADVANCE, MARK, EXPAND, LOOK, lastKind, request}
+use Rattle.rules.specs.Asks.{OWN, ADVANCE, MARK, EXPAND, LOOK, lastKind, plain}
 use Rattle.rules.specs.Limits.{maxCap}
 use Rattle.steps.specs.declared.Place.{Place}
 use Rattle.steps.specs.declared.Place.the-variants.{Seek, Take, Work, Claim, Mark, Split, Stopped}
@@ -35,7 +35,7 @@ not-parted {code} none = rw (ne-eqb code 0 (λ e. none (inl e)), ne-eqb code 16 
 -- ---- within the limits nothing is clipped
 
 small-request : (t : ℕ) (r : Team) (kind amount : ℕ) (p : ℤ) → Limited t r → kind ≤ lastKind → amount ≤ maxCap
-    → clippedRequest (request (pos kind) (pos t) (pos (r .node)) p (pos amount)) ≡ request (pos kind) (pos t) (pos (r .node)) p (pos amount)
+    → clippedRequest (plain (pos kind) (pos t) (pos (r .node)) p (pos amount)) ≡ plain (pos kind) (pos t) (pos (r .node)) p (pos amount)
 small-request t r kind amount p h k a =
     rw
     (signed-is kind (omega arith), signed-is t (omega (arith, h .number-high)), signed-is (r .node) (omega (arith, h .node-high)), signed-is amount (omega arith))

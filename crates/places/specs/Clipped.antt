@@ -7,7 +7,7 @@ use Rattle.numbers.specs.Fields.{natOf}
 use Rattle.numbers.specs.Progress.{signed}
 use Rattle.rules.specs.declared.Request.{Request}
 use Rattle.rules.specs.declared.Answer.{Answer}
-use Rattle.rules.specs.Asks.{request}
+use Rattle.rules.specs.Asks.{plain}
 use Rattle.rules.specs.Limits.{maxTeams, maxCap}
 use Rattle.steps.specs.declared.Team.{Team}
 use Rattle.steps.specs.Records.{maxNode, placed}
@@ -31,7 +31,7 @@ clippedAnswer a =
 -- a request as signed fields hold it; its position is signed as it comes
 abbrev pub clippedRequest : Request → Request
 clippedRequest q =
-    request (signed (natOf (q .kind))) (signed (natOf (q .team))) (signed (natOf (q .node))) (q .position) (signed (natOf (q .amount)))
+    plain (signed (natOf (q .kind))) (signed (natOf (q .team))) (signed (natOf (q .node))) (q .position) (signed (natOf (q .amount)))
 
 -- ---- what the code of a place says
 

@@ -4,7 +4,7 @@ ghost use mathlib.Core.Bool.{cond};
 ghost use lib.Dec.{eqb};
 ghost use Rattle.steps.specs.Records.{claim, mark, isStopped};
 ghost use Rattle.numbers.specs.Progress.{signed};
-ghost use Rattle.rules.specs.Asks.{request};
+ghost use Rattle.rules.specs.Asks.{plain};
 ghost use Rattle.steps.specs.Places.{stealable, again, onward, grownSize, sightMoves, seekMoves, takeMoves, workMoves, claimMoves, markMoves, splitMoves};
 ghost use Rattle.places.specs.Clipped.{clippedTeam, clippedAnswer, clippedAsks, clippedMoves};
 
@@ -19,13 +19,13 @@ use steps::Team;
 
 // A number past the largest signed one becomes the largest, and no team asks for such a one.
 fn request_of(kind: u32, number: u32, node: u32, position: i32, amount: u32) -> Request
-    ensures { λ q. ⌜ q ≡ request (signed kind) (signed number) (signed node) position (signed amount) ⌝ }
+    ensures { λ q. ⌜ q ≡ plain (signed kind) (signed number) (signed node) position (signed amount) ⌝ }
 {
     let k = numbers::to_signed(kind);
     let t = numbers::to_signed(number);
     let n = numbers::to_signed(node);
     let a = numbers::to_signed(amount);
-    Request::new(k, t, n, position, a)
+    Request::new(k, t, n, position, a, 0, 0, 0)
 }
 
 pub fn has_stopped(p: Place) -> bool

@@ -2,8 +2,9 @@
 ghost use mathlib.Core.Path.{_≡_};
 ghost use Rattle.numbers.specs.Fields.{within, isNat, sameNumber};
 ghost use Rattle.rules.specs.Asks.{lastKind};
+ghost use Rattle.rules.specs.Joining.{reportable};
 ghost use Rattle.rules.specs.Limits.{maxAmount};
-ghost use Rattle.rules.specs.Refusals.{noRoom, ownCode, advanceCode, markCode, expandCode, kindCode, refusal};
+ghost use Rattle.rules.specs.Refusals.{noRoom, ownCode, advanceCode, markCode, expandCode, reportCode, pushCode, kindCode, refusal};
 use rules::Node;
 use rules::Request;
 use rules::View;
@@ -42,6 +43,12 @@ fn at_progress(x: Node, r: Request) -> bool
     ensures { λ b. ⌜ b ≡ sameNumber (r .position) (x .progress) ⌝ }
 {
     numbers::same_number(r.position, x.progress)
+}
+
+fn good_report(r: Request) -> bool
+    ensures { λ b. ⌜ b ≡ reportable (r .count) (r .first) (r .last) ⌝ }
+{
+    finds::is_reportable(r.count, r.first, r.last)
 }
 
 // The sums are taken in 64 bits, where no number of a view can make them wrap.
@@ -87,6 +94,24 @@ fn expand_code(x: Node) -> u32
     numbers::pick(!nodes::is_marked(x), 15, c16)
 }
 
+fn report_code(x: Node, r: Request) -> u32
+    ensures { λ c. ⌜ c ≡ reportCode x r ⌝ }
+{
+    let c33 = numbers::pick(!good_report(r), 33, 0);
+    let c32 = numbers::pick(!(x.stage == Node::UNREPORTED), 32, c33);
+    let c31 = numbers::pick(!nodes::is_ended(x), 31, c32);
+    numbers::pick(!by_owner(x, r), 8, c31)
+}
+
+fn push_code(v: View) -> u32
+    ensures { λ c. ⌜ c ≡ pushCode v ⌝ }
+{
+    let x = v.node;
+    let c36 = numbers::pick(nodes::is_unready(x, v.left, v.right), 36, 0);
+    let c35 = numbers::pick(!(x.stage == Node::PREPARED), 35, c36);
+    numbers::pick(nodes::is_pushed(x), 34, c35)
+}
+
 fn kind_code(v: View, r: Request) -> u32
     ensures { λ c. ⌜ c ≡ kindCode v r ⌝ }
 {
@@ -97,7 +122,9 @@ fn kind_code(v: View, r: Request) -> u32
         Request::ADVANCE => advance_code(x, r),
         Request::MARK => mark_code(v, r),
         Request::EXPAND => expand_code(x),
-        _ => 0,
+        Request::LOOK => 0,
+        Request::REPORT => report_code(x, r),
+        _ => push_code(v),
     }
 }
 

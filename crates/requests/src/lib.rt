@@ -1,8 +1,9 @@
 // What a request decides of the one node it names: its answer, and what it does to the node.
 ghost use mathlib.Core.Path.{_≡_};
-ghost use Rattle.rules.specs.Requests.{refused, refusing, ranged, split, seen, outcome, owning, batchEnd, advancing, marking, expanding, looking, granted, decided};
+ghost use Rattle.rules.specs.Requests.{refused, refusing, ranged, split, seen, outcome, owning, batchEnd, advancing, marking, expanding, looking, findsIn, reporting, pushing, granted, decided};
 use rules::Answer;
 use rules::Change;
+use rules::Finds;
 use rules::Node;
 use rules::Outcome;
 use rules::Request;
@@ -137,6 +138,32 @@ fn look_outcome(v: View) -> Outcome
     outcome_of(look_answer(x), Change::Keep)
 }
 
+fn finds_in(r: Request) -> Finds
+    ensures { λ f. ⌜ f ≡ findsIn r ⌝ }
+{
+    let count = numbers::natural(r.count);
+    let first = numbers::natural(r.first);
+    let last = numbers::natural(r.last);
+    Finds {
+        count: count,
+        first: first,
+        last: last,
+    }
+}
+
+fn report_outcome(r: Request) -> Outcome
+    ensures { λ o. ⌜ o ≡ reporting r ⌝ }
+{
+    let f = finds_in(r);
+    outcome_of(refused_by(0), Change::Report(f))
+}
+
+fn push_outcome() -> Outcome
+    ensures { λ o. ⌜ o ≡ pushing ⌝ }
+{
+    outcome_of(refused_by(0), Change::Push)
+}
+
 fn granted_by(v: View, r: Request) -> Outcome
     ensures { λ o. ⌜ o ≡ granted v r ⌝ }
 {
@@ -146,7 +173,9 @@ fn granted_by(v: View, r: Request) -> Outcome
         Request::ADVANCE => advance_outcome(v, r),
         Request::MARK => mark_outcome(v, r),
         Request::EXPAND => expand_outcome(v),
-        _ => look_outcome(v),
+        Request::LOOK => look_outcome(v),
+        Request::REPORT => report_outcome(r),
+        _ => push_outcome(),
     }
 }
 

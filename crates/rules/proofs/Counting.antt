@@ -21,18 +21,18 @@ use Rattle.rules.proofs.TreeSum.{sumTree, tree-sum}
 module _ (l : Ledger) (w : WF l) where
   below : {n : ℕ} (t : Tree l n) → sumTree (λ (m : ℕ). restOf (at l m)) t ≤ at l n .until - at l n .start
   unfolding sumTree restOf middle
-  below (leaf {n = n} u e) = rw (eq-eqb (at l n .left) 0 e) (omega (arith, w .alone n u .low))
+  below (leaf {n = n} u e) = rw (eq-eqb (at l n .left) 0 e) (omega (arith, w .node n u .alone .low))
   below (fork {n = n} {c = c} u some e x y) =
-      let a = w .alone n u in
-      let p = rw e at (w .pair n u (omega arith)) in
+      let a = w .node n u .alone in
+      let p = rw e at (w .node n u .pair (omega arith)) in
       let ne : at l n .left ≢ 0 = omega arith in
       rw
       (ne-eqb (at l n .left) 0 ne)
-      (omega (arith, below x, below y, a .low, a .high, p .left-start, p .left-until, p .right-start, p .right-until))
+      (omega (arith, below x, below y, a .low, a .high, p .left .start, p .left .until, p .right .start, p .right .until))
 
   pub at-most : unclaimed l ≤ l .until - l .start
   unfolding unclaimed restOf
-  at-most = omega (arith, tree-sum l w restOf refl, below (rooted l w .tree), w .root-start, w .root-until)
+  at-most = omega (arith, tree-sum l w restOf refl, below (rooted l w .tree), w .root .start, w .root .until)
 
 pub count-at-most : CountAtMost
 count-at-most l s = at-most l (rules l s)

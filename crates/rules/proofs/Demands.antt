@@ -19,7 +19,7 @@ use Rattle.rules.proofs.Spare.{left-blank, right-blank, pair-room}
 use Rattle.rules.proofs.Effects.{becomes-of}
 use Rattle.rules.proofs.Granted.{not-yet, in-use, late-facts, answers, Settled, denied, cleared, settled}
 use Rattle.rules.proofs.Keeps.{requested-good, requested-wf, refused-keeps}
-use Rattle.rules.proofs.Moves.{moves, others, none}
+use Rattle.rules.proofs.Moves.{moves, keeps-state, others, none}
 use Rattle.rules.proofs.Opens.{begun, opened-wf}
 use Rattle.rules.proofs.Record.{WF, rules, rules-back}
 use Rattle.rules.proofs.States.{is-stolen, is-owned, completed-is}
@@ -40,8 +40,8 @@ told : {l : Ledger} {r : Request} {a : Answered} → WF l → Settled l r a → 
 unfolding view
 told {l} {r} w (denied ne) e =
     let late = late-facts (view l (nodeIn r)) r e in
-    let p = w .pair (nodeIn r) (in-use l r (late .asked)) (late .parent) in
-    rw e (record { left = refl; left-until = p .left-until; right-start = p .right-start })
+    let p = w .node (nodeIn r) (in-use l r (late .asked)) .pair (late .parent) in
+    rw e (record { left = refl; left-until = p .left .until; right-start = p .right .start })
 told w (cleared z) e = absurd (omega arith)
 
 pub late-splitter-told : LateSplitterTold
@@ -56,10 +56,10 @@ pub owned-has-some : OwnedHasSome
 owned-has-some l n sound u s =
     let x = at l n in
     let o = is-owned x s in
-    omega (arith, rules l sound .alone n u .high, not-yet (x .progress) (x .until) (o .plain) (o .going))
+    omega (arith, rules l sound .node n u .alone .high, not-yet (x .progress) (x .until) (o .plain) (o .going))
 
 pub stolen-has-some : StolenHasSome
-stolen-has-some l n sound u mark = omega (arith, rules l sound .alone n u .some-left mark)
+stolen-has-some l n sound u mark = omega (arith, rules l sound .node n u .alone .some-left mark)
 
 pub last-sheet : LastSheet
 unfolding leftPart rightPart middle
@@ -70,7 +70,7 @@ last-sheet x one =
 pub empty-never-owned : EmptyNeverOwned
 empty-never-owned l n sound u empty =
     let x = at l n in
-    let alone = rules l sound .alone n u in
+    let alone = rules l sound .node n u .alone in
     let nobody = alone .empty empty in
     (completed-is x (rw (alone .unowned nobody ∙ ap pos empty) (isNat-made (x .until))), nobody)
 
@@ -80,9 +80,10 @@ follow l r w =
     rw
     (requested-wf l r w)
     (record {
-      others = others w (becomes-of l r);
+      others = others w (becomes-of l r w);
       moves = step;
-      none = none l (answered l r .ledger) _ (leads (stateOf (at l (nodeIn r))) (natOf (r .kind))) step;
+      none = λ h. none l (answered l r .ledger) _ (leads (stateOf (at l (nodeIn r))) (natOf (r .kind))) (step h);
+      stays = keeps-state w (answers l r);
     })
 
 pub requests-follow-moves : RequestsFollowMoves

@@ -5,14 +5,15 @@ use Prim.Native.Nat.{ℕ, _+_, _-_, _<_}
 use native.Mathlib.Omega.{arith}
 use lib.ListN.{take, drop, replicate}
 use lib.Seq.{getD-drop}
+use Rattle.rules.specs.Joining.{sameFinds, reportable, joinAll, join}
 use Rattle.rules.specs.declared.Ledger.{Ledger}
 use Rattle.rules.specs.Examples.{Example, Right, example-a, example-b, example-c, example-d, example-e, example-f, example-g, example-h, example-i, example-j, example-k, example-l}
 use Rattle.rules.specs.Demands.{TwelveExamples}
 use Rattle.rules.specs.Limits.{opens, slotsAfter}
-use Rattle.rules.specs.Nodes.{blank, middle, leftPart, rightPart}
-use Rattle.rules.specs.States.{stateOf, stolenOf}
+use Rattle.rules.specs.Nodes.{blank, middle, leftPart, rightPart, joinedOf}
+use Rattle.rules.specs.States.{stateOf, stolenOf, unready}
 use Rattle.rules.specs.Table.{at, put, nextPair, grown, sumBy, stolenIn}
-use Rattle.rules.specs.WellFormed.{upTo, aloneRule, childRule, nodeRule, leftIs, pairRule, roomRule, rootRange, numbersRule, unusedRule, wellFormed}
+use Rattle.rules.specs.WellFormed.{upTo, aloneRule, childRule, nodeRule, leftIs, pairRule, roomRule, rootRange, numbersRule, unusedRule, wellFormed, stageRule}
 use Rattle.rules.specs.Refusals.{ownCode, advanceCode, markCode, expandCode, kindCode, refusal}
 use Rattle.rules.specs.Requests.{owning, batchEnd, advancing, marking, expanding, looking, granted, decided, view, changed, answered, requested}
 use Rattle.rules.specs.Count.{restOf, unclaimed, counted}
@@ -51,7 +52,7 @@ also : {A B : Type 0} → A → B → A × B
 also a b = (a, b)
 
 pub twelve-examples : TwelveExamples
-unfolding opens middle leftPart rightPart stateOf stolenOf at put nextPair grown sumBy stolenIn upTo aloneRule childRule nodeRule leftIs pairRule ownCode advanceCode markCode expandCode kindCode refusal owning batchEnd advancing marking expanding looking granted decided view changed answered restOf unclaimed
+unfolding opens middle leftPart rightPart stateOf stolenOf at put nextPair grown sumBy stolenIn upTo aloneRule childRule nodeRule leftIs pairRule ownCode advanceCode markCode expandCode kindCode refusal owning batchEnd advancing marking expanding looking granted decided view changed answered restOf unclaimed stageRule sameFinds reportable joinedOf joinAll join unready
 twelve-examples =
     also (right example-a (slotsAfter 1) refl refl refl refl refl)
     (also (right example-b (slotsAfter 1) refl refl refl refl refl)

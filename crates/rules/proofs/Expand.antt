@@ -8,30 +8,37 @@ use native.Mathlib.Decide.{ℕ-discrete, decLe}
 use lib.ListN.{length}
 use Rattle.rules.specs.declared.Node.{Node}
 use Rattle.rules.specs.declared.Ledger.{Ledger}
-use Rattle.rules.specs.Nodes.{blank, fresh, parted, middle, leftPart, rightPart}
-use Rattle.rules.specs.States.{stolenOf}
+use Rattle.rules.specs.Nodes.{PUSHED, blank, fresh, parted, middle, leftPart, rightPart}
+use Rattle.rules.specs.States.{ended, stolenOf}
 use Rattle.rules.specs.Table.{InUse, at, put, nextPair, grown, sumBy, stolenIn}
 use Rattle.rules.specs.WellFormed.{leftIs}
 use Rattle.rules.proofs.Granted.{after}
 use Rattle.rules.proofs.Nodes.{at-next}
 use Rattle.rules.proofs.Parents.{no-left, is-left}
-use Rattle.rules.proofs.Record.{WF, Alone, Pair, in-table, left-used, right-used, root-used}
-use Rattle.rules.proofs.Spare.{spare, left-blank, right-blank, not-left, not-right, pair-room, pair-fits}
+use Rattle.rules.proofs.Record.{WF, GoodNode, Alone, Pair, Staged, in-table, left-used, root-used}
+use Rattle.rules.proofs.Spare.{spare, left-blank, right-blank, not-left, not-right, pair-fits}
 use Rattle.rules.proofs.Split.{split-here, split-left, split-right, split-other, split-length, split-sum}
-use Rattle.rules.proofs.States.{Stolen, stolen-one, parent-none, fresh-none, blank-none}
+use Rattle.rules.proofs.Stages.{staged-fresh, unpushed, staged-moved}
+use Rattle.rules.proofs.States.{Stolen, going-on, stolen-one, parent-none, fresh-none, blank-none}
+use Rattle.rules.proofs.Store.{Stored, spans-kept, good-kept}
 use Rattle.rules.proofs.Sums.{sumBy-zero}
 
--- a new node is good by itself
-pub alone-fresh : (teams a b : ℕ) → a ≤ b → Alone teams (fresh a b)
-alone-fresh teams a b h =
+-- a new node is good, wherever it stands
+pub good-fresh : {node : ℕ → Node} {teams used n : ℕ} (a b : ℕ) → a ≤ b → GoodNode node teams used n (fresh a b)
+good-fresh a b h =
     record {
-      low = omega arith;
-      high = h;
-      some-left = λ (e : false ≡ true). let z : _≡_ {A = ℕ} 0 1 = cc in omega arith;
-      owner = omega arith;
-      unowned = λ e. refl;
-      empty = λ e. refl;
-      lone = λ e. refl;
+      alone =
+          record {
+            low = omega arith;
+            high = h;
+            some-left = λ (e : false ≡ true). let z : _≡_ {A = ℕ} 0 1 = cc in omega arith;
+            owner = omega arith;
+            unowned = λ e. refl;
+            empty = λ e. refl;
+            lone = λ e. refl;
+          };
+      pair = λ some. absurd (omega arith);
+      staged = staged-fresh a b _ _;
     }
 
 -- a node in use after a split of n into the pair c: n itself, one of the two, or another that was in use
@@ -114,81 +121,54 @@ module _ (l : Ledger) (w : WF l) (n : ℕ) (u : InUse l n) (s : Stolen (at l n))
       omega
       (arith, split-sum l n c y (leftPart x) (rightPart x) (u .low) fits some room far far′ f, ap f (left-blank l w), ap f (right-blank l w))
 
-  kept-range : (m : ℕ) → InUse l m → (at next m .start ≡ at l m .start) × (at next m .until ≡ at l m .until)
-  kept-range m v = go (ℕ-discrete m n)
-    where
-      go : Dec (m ≡ n) → (at next m .start ≡ at l m .start) × (at next m .until ≡ at l m .until)
-      go (yes e) = rw (e, split-slots .here) (refl, refl)
-      go (no ne) = rw (stays m v ne) (refl, refl)
-
-  -- the nodes by themselves
-  alone-x : Alone (l .teams) x
-  alone-x = w .alone n u
-
-  alone-y : Alone (l .teams) y
-  alone-y =
-      record {
-        low = alone-x .low;
-        high = alone-x .high;
-        some-left = alone-x .some-left;
-        owner = alone-x .owner;
-        unowned = alone-x .unowned;
-        empty = alone-x .empty;
-        lone = alone-x .lone;
-      }
-
-  alone-next : (m : ℕ) → Among l n c m → Alone (l .teams) (at next m)
-  unfolding leftPart rightPart middle
-  alone-next m (parent e) = rw (e, split-slots .here) alone-y
-  alone-next m (left e) = rw (e, split-slots .left) (alone-fresh _ _ _ (omega arith))
-  alone-next m (right e) = rw (e, split-slots .right) (alone-fresh _ _ _ (omega (arith, alone-x .high)))
-  alone-next m (other v ne n₁ n₂) = rw (split-slots .other m (v .low) ne n₁ n₂) (w .alone m v)
-
-  -- children
   abbrev used′ : ℕ
   used′ = max (l .used) (c + 1)
 
-  pair-kept : (m : ℕ) → InUse l m → 0 < at l m .left → Pair (at next) used′ (at l m)
-  pair-kept m v h =
-      let p = w .pair m v h in
-      let k₁ = kept-range (at l m .left) (left-used l w m v h) in
-      let k₂ = kept-range (at l m .left + 1) (right-used l w m v h) in
+  good-x : GoodNode (at l) (l .teams) (l .used) n x
+  good-x = w .node n u
+
+  -- the node is not pushed
+  unpushed-x : x .stage ≢ PUSHED
+  unpushed-x = unpushed x _ _ (good-x .staged) (going-on x (s .mark)) (s .leaf)
+
+  stored : Stored l n (at next) used′
+  stored =
       record {
-        mark = p .mark;
-        even = p .even;
-        inside = omega (arith, p .inside);
-        left-start = k₁ .0 ∙ p .left-start;
-        left-until = k₁ .1 ∙ p .left-until;
-        right-start = k₂ .0 ∙ p .right-start;
-        right-until = k₂ .1 ∙ p .right-until;
+        more = omega arith;
+        unpushed = unpushed-x;
+        start = rw (split-slots .here);
+        until = rw (split-slots .here);
+        other = stays;
       }
 
-  pair-y : Pair (at next) used′ y
+  -- and after the split it is a good node, with its children
+  alone-y : Alone (l .teams) y
+  alone-y = let a = good-x .alone in search
+
+  pair-y : Pair (at next) used′ n y
   unfolding leftPart rightPart middle
   pair-y =
       record {
         mark = s .mark;
         even = spare l w .even;
+        later = omega (arith, u .high, spare l w .past);
         inside = omega arith;
-        left-start = rw (split-slots .left);
-        left-until = rw (split-slots .left);
-        right-start = rw (split-slots .right);
-        right-until = rw (split-slots .right);
+        left = rw (split-slots .left) (record { start = refl; until = refl });
+        right = rw (split-slots .right) (record { start = refl; until = refl });
       }
 
-  pair-next : (m : ℕ) → Among l n c m → 0 < at next m .left → Pair (at next) used′ (at next m)
-  unfolding leftPart rightPart
-  pair-next m (parent e) = rw (e, split-slots .here) (λ h. pair-y)
-  pair-next m (left e) = rw (e, split-slots .left) (λ h. absurd (omega arith))
-  pair-next m (right e) = rw (e, split-slots .right) (λ h. absurd (omega arith))
-  pair-next m (other v ne n₁ n₂) = rw (split-slots .other m (v .low) ne n₁ n₂) (λ h. pair-kept m v h)
+  staged-y : (a b : Node) → Staged y a b
+  unfolding ended
+  staged-y a b =
+      staged-moved x y _ _ a b (good-x .staged) unpushed-x (record { start = refl; until = refl; own = refl; joined = refl; stage = refl }) (λ p.
+      good-x .staged .prepared p .over)
 
-  later-next : (m : ℕ) → Among l n c m → 0 < at next m .left → m < at next m .left
-  unfolding leftPart rightPart
-  later-next m (parent e) = rw (e, split-slots .here) (λ h. omega (arith, u .high, spare l w .past))
-  later-next m (left e) = rw (e, split-slots .left) (λ h. absurd (omega arith))
-  later-next m (right e) = rw (e, split-slots .right) (λ h. absurd (omega arith))
-  later-next m (other v ne n₁ n₂) = rw (split-slots .other m (v .low) ne n₁ n₂) (λ h. w .later m v h)
+  good-next : (m : ℕ) → Among l n c m → GoodNode (at next) (l .teams) used′ m (at next m)
+  unfolding leftPart rightPart middle
+  good-next m (parent e) = rw (e, split-slots .here) (record { alone = alone-y; pair = λ h. pair-y; staged = staged-y _ _ })
+  good-next m (left e) = rw (e, split-slots .left) (good-fresh _ _ (omega arith))
+  good-next m (right e) = rw (e, split-slots .right) (good-fresh _ _ (omega (arith, good-x .alone .high)))
+  good-next m (other v ne n₁ n₂) = rw (stays m v ne) (good-kept stored (w .node m v))
 
   -- nobody has the new pair yet
   left-below : (m : ℕ) → 1 ≤ m → at l m .left ≢ c
@@ -216,10 +196,11 @@ module _ (l : Ledger) (w : WF l) (n : ℕ) (u : InUse l n) (s : Stolen (at l n))
       let b = no-left d (rightPart x) (omega arith) in
       omega (arith, sums (leftIs d) (no-left d blank (omega arith)))
 
-  parent-next : (d : ℕ) → 0 < d → d < used′ → d % 2 ≡ 0 → Dec (d ≡ c) → sumBy (leftIs d) (next .nodes) ≡ 1
+  parent-next : (d : ℕ) → 1 ≤ d → d ≤ used′ → d % 2 ≡ 0 → Dec (d ≡ c) → sumBy (leftIs d) (next .nodes) ≡ 1
   parent-next d p q e (yes f) = rw f (omega (arith, left-sums c some, none-yet, is-left c y refl))
   parent-next d p q e (no f) =
-      omega (arith, left-sums d p, w .parent d p (omega (arith, w .odd, spare l w .next, spare l w .even)) e, no-left d y (omega arith))
+      let v : InUse l d = record { low = p; high = omega (arith, spare l w .next, spare l w .even) } in
+      omega (arith, left-sums d p, w .parent d v e, no-left d y (omega arith))
 
   -- one STOLEN node less makes up for the pair
   pub load-next : used′ + 2 * stolenIn next ≡ l .used + 2 * stolenIn l
@@ -238,13 +219,9 @@ module _ (l : Ledger) (w : WF l) (n : ℕ) (u : InUse l n) (s : Stolen (at l n))
         limits = w .limits;
         slots = split-length l n c y (leftPart x) (rightPart x) (u .low) fits some room far far′ ∙ w .slots;
         odd = omega (arith, w .odd, spare l w .even, spare l w .past);
-        used-room = omega (arith, pair-room l w n u s, w .used-room);
-        root-start = kept-range 1 (root-used l w) .0 ∙ w .root-start;
-        root-until = kept-range 1 (root-used l w) .1 ∙ w .root-until;
-        alone = λ m v. alone-next m (split-slots .among m v);
-        pair = λ m v. pair-next m (split-slots .among m v);
-        later = λ m v. later-next m (split-slots .among m v);
-        parent = λ d p q e. parent-next d p q e (ℕ-discrete d c);
+        root = spans-kept stored (root-used l w) (w .root);
+        node = λ m v. good-next m (split-slots .among m v);
+        parent = λ d v e. parent-next d (v .low) (v .high) e (ℕ-discrete d c);
         loaded = omega (arith, load-next, w .loaded);
         blank =
             λ m p.

@@ -1,12 +1,12 @@
 -- What is so when a request is granted, kind by kind, with what it then answers and does.
 use mathlib.Core.Path.{_≡_, refl, sym, ap, _∙_}
 use mathlib.Core.Logic.{_≢_}
-use mathlib.Core.Bool.{Bool, true, false, not, true≢false}
+use mathlib.Core.Bool.{Bool, true, false, not, _&&_, _||_, true≢false}
 use mathlib.Core.List.{[], _∷_}
 use Prim.Native.Nat.{ℕ, _+_, _*_, _≤_, _<_, min}
 use native.Mathlib.Omega.{arith}
 use native.Mathlib.Decide.{ℕ-discrete}
-use lib.Dec.{T}
+use lib.Dec.{T, eqb}
 use lib.IntN.{ℤ, pos, negsuc}
 use borrow.Author.Tests.{eqb-true, eqb-false, ne-eqb, not-false}
 use Rattle.numbers.specs.Progress.{negative, position}
@@ -17,18 +17,21 @@ use Rattle.rules.specs.declared.Ledger.{Ledger}
 use Rattle.rules.specs.declared.Request.{Request}
 use Rattle.rules.specs.declared.Answered.{Answered}
 use Rattle.rules.specs.declared.View.{View}
+use Rattle.rules.specs.declared.Outcome.{Outcome}
 use Rattle.rules.specs.declared.Change.the-variants.{Keep}
-use Rattle.rules.specs.Asks.{OWN, ADVANCE, MARK, EXPAND, LOOK, lastKind}
+use Rattle.rules.specs.Asks.{OWN, ADVANCE, MARK, EXPAND, LOOK, REPORT, PUSH, lastKind}
 use Rattle.rules.specs.Demands.{ChildrenUnseen}
+use Rattle.rules.specs.Joining.{finds, maxFinds, reportable, passing}
 use Rattle.rules.specs.Limits.{maxAmount}
-use Rattle.rules.specs.Nodes.{owned, moved, parted, marked, unowned, childless, positionOf, middle, leftPart, rightPart}
-use Rattle.rules.specs.States.{completed}
+use Rattle.rules.specs.Moves.{lastMover}
+use Rattle.rules.specs.Nodes.{UNREPORTED, PREPARED, owned, moved, parted, reported, pushed, marked, unowned, childless, positionOf, middle, leftPart, rightPart, joinedOf}
+use Rattle.rules.specs.States.{completed, ended, unready}
 use Rattle.rules.specs.Table.{InUse, at, put, nextPair, grown, stolenIn}
-use Rattle.rules.specs.Refusals.{allTests, ownTests, advanceTests, markTests, expandTests, ownCode, advanceCode, markCode, expandCode, kindCode, refusal}
-use Rattle.rules.specs.Requests.{refusing, ranged, split, seen, outcome, owning, batchEnd, advancing, marking, expanding, looking, granted, decided, view, changed, nodeIn, answered}
+use Rattle.rules.specs.Refusals.{allTests, ownTests, advanceTests, markTests, expandTests, reportTests, pushTests, ownCode, advanceCode, markCode, expandCode, reportCode, pushCode, kindCode, refusal}
+use Rattle.rules.specs.Requests.{refusing, ranged, split, seen, done, outcome, owning, batchEnd, advancing, marking, expanding, looking, findsIn, reporting, pushing, granted, decided, view, alone, changed, nodeIn, answered}
 use Rattle.rules.specs.Tests.{_when_}
-use Rattle.rules.proofs.Facts.{ltb-f}
-use Rattle.rules.proofs.Tests.{lacks, passed-to, passed, Kind, own, advance, mark, expand, look, kind-of}
+use Rattle.rules.proofs.Facts.{both, ltb-f}
+use Rattle.rules.proofs.Tests.{lacks, passed-to, passed, clear, Kind, own, advance, mark, expand, look, report, push, kind-of, each-kind}
 use Rattle.rules.proofs.States.{Stolen}
 
 -- ---- the facts of each kind
@@ -67,6 +70,16 @@ pub record Marking (x : Node) (r : Request) (load room : ℕ) : Type 0 where
   pub here : Here x r
   pub fits : load + 2 ≤ room
 
+pub record Reporting (x : Node) (r : Request) : Type 0 where
+  pub mine : x .owner ≡ natOf (r .team)
+  pub over : ended x ≡ true
+  pub new : x .stage ≡ UNREPORTED
+  pub fits : passing (findsIn r) ≡ true
+
+pub record Pushing (x a b : Node) : Type 0 where
+  pub prepared : x .stage ≡ PREPARED
+  pub ready : unready x a b ≡ false
+
 -- ---- the answer, and the ledger after it
 
 -- node n becomes x, and has the children a and b at the pair c
@@ -99,8 +112,21 @@ pub data Answers (l : Ledger) (r : Request) : ℕ → Answered → Type 0 where
         answer = split (nextPair l) (middle (at l (nodeIn r)));
       })
   looks : Asked (l .teams) (l .used) r → Answers l r LOOK (record { ledger = l; answer = seen (at l (nodeIn r)) })
+  reports : Asked (l .teams) (l .used) r → Reporting (at l (nodeIn r)) r
+      → Answers l r REPORT (record { ledger = put l (nodeIn r) (reported (at l (nodeIn r)) (findsIn r)); answer = done })
+  pushes : Asked (l .teams) (l .used) r
+      → Pushing (at l (nodeIn r)) (at l (at l (nodeIn r) .left)) (at l (at l (nodeIn r) .left + 1))
+      → Answers l r PUSH (record {
+        ledger = put l (nodeIn r) (pushed (at l (nodeIn r)) (joinedOf (at l (nodeIn r)) (at l (at l (nodeIn r) .left)) (at l (at l (nodeIn r) .left + 1))));
+        answer = done;
+      })
 
 -- ---- reading the lists of tests back
+
+-- what is no number but 0, or negative, is not from 1 on
+no-number : (z : ℤ) (k : ℕ) → natOf z ≡ 0 → within z 1 k ≡ false
+no-number (pos n) k e = rw e
+no-number (negsuc n) k e = refl
 
 unmarked : (z p : ℤ) → negative z ≡ false → p ≡ z → (z ≡ pos (position z)) × (natOf p ≡ position z)
 unmarked (pos n) p t e = (refl, rw e)
@@ -129,16 +155,16 @@ pub own-facts : (x : Node) → ownCode x ≡ 0 → Owning x
 unfolding ownCode
 own-facts x e =
     let t = passed (ownTests x) 0 tt e .0 in
-    record { nobody = eqb-true (x .owner) 0 (not-false (unowned x) (t .0)); going = t .1 .0 }
+    record { nobody = eqb-true (x .owner) 0 (not-false (unowned x) (clear 5 (ownTests x) t)); going = clear 6 (ownTests x) t }
 
 pub advance-facts : (x : Node) (r : Request) → advanceCode x r ≡ 0 → Advancing x r
 unfolding advanceCode batchEnd
 advance-facts x r e =
     let t = passed (advanceTests x r) 0 tt e .0 in
-    let h = here-is x r (t .1 .1 .0) (t .1 .1 .1 .0) (t .1 .1 .1 .1 .0) in
+    let h = here-is x r (clear 9 (advanceTests x r) t) (clear 6 (advanceTests x r) t) (clear 10 (advanceTests x r) t) in
     record {
-      amount = within-true (r .amount) 1 maxAmount (not-false (within (r .amount) 1 maxAmount) (t .0));
-      mine = sym (ap natOf (isNat-true (r .team) (x .owner) (not-false (isNat (r .team) (x .owner)) (t .1 .0))));
+      amount = within-true (r .amount) 1 maxAmount (not-false (within (r .amount) 1 maxAmount) (clear 7 (advanceTests x r) t));
+      mine = sym (ap natOf (isNat-true (r .team) (x .owner) (not-false (isNat (r .team) (x .owner)) (clear 8 (advanceTests x r) t))));
       here = h;
       end = rw (h .position-is);
     }
@@ -149,10 +175,10 @@ unfolding markCode
 mark-facts v r team e =
     let t = passed (markTests v r) 0 tt e .0 in
     record {
-      somebody = eqb-false (v .node .owner) 0 (t .0);
-      other = λ f. true≢false (sym (rw (team, ← f) (isNat-made (v .node .owner))) ∙ t .1 .0);
-      here = here-is (v .node) r (t .1 .1 .0) (t .1 .1 .1 .0) (t .1 .1 .1 .1 .0);
-      fits = omega (arith, simp ltb-f at (t .1 .1 .1 .1 .1 .0));
+      somebody = eqb-false (v .node .owner) 0 (clear 11 (markTests v r) t);
+      other = λ f. true≢false (sym (rw (team, ← f) (isNat-made (v .node .owner))) ∙ clear 12 (markTests v r) t);
+      here = here-is (v .node) r (clear 9 (markTests v r) t) (clear 6 (markTests v r) t) (clear 10 (markTests v r) t);
+      fits = omega (arith, simp ltb-f at (clear 14 (markTests v r) t));
     }
 
 pub expand-facts : (x : Node) → expandCode x ≡ 0 → Stolen x
@@ -160,8 +186,39 @@ unfolding expandCode
 expand-facts x e =
     let t = passed (expandTests x) 0 tt e .0 in
     record {
-      mark = not-false (marked x) (t .0);
-      leaf = eqb-true (x .left) 0 (not-false (childless x) (t .1 .0));
+      mark = not-false (marked x) (clear 15 (expandTests x) t);
+      leaf = eqb-true (x .left) 0 (not-false (childless x) (clear 16 (expandTests x) t));
+    }
+
+-- a result that passes 33 as it is asked passes it as it is kept
+passes-as : (a b c p q r : ℤ) → a ≡ p → b ≡ q → c ≡ r → reportable a b c ≡ true → reportable p q r ≡ true
+passes-as a b c p q r d e f h = rw (← d, ← e, ← f) h
+
+report-passes : (a b c : ℤ) → reportable a b c ≡ true → passing (finds (natOf a) (natOf b) (natOf c)) ≡ true
+unfolding reportable
+report-passes a b c e =
+    let h = simp both at e in
+    passes-as a b c _ _ _ (within-true a 0 maxFinds (h .0 .0 .0) .is) (within-true b 0 maxFinds (h .0 .0 .1) .is) (within-true c 0 maxFinds (h .0 .1) .is) e
+
+pub report-facts : (x : Node) (r : Request) → reportCode x r ≡ 0 → Reporting x r
+unfolding reportCode
+report-facts x r e =
+    let t = passed (reportTests x r) 0 tt e .0 in
+    record {
+      mine = sym (ap natOf (isNat-true (r .team) (x .owner) (not-false (isNat (r .team) (x .owner)) (clear 8 (reportTests x r) t))));
+      over = not-false (ended x) (clear 31 (reportTests x r) t);
+      new = eqb-true (x .stage) UNREPORTED (not-false (eqb (x .stage) UNREPORTED) (clear 32 (reportTests x r) t));
+      fits =
+          report-passes (r .count) (r .first) (r .last) (not-false (reportable (r .count) (r .first) (r .last)) (clear 33 (reportTests x r) t));
+    }
+
+pub push-facts : (v : View) → pushCode v ≡ 0 → Pushing (v .node) (v .left) (v .right)
+unfolding pushCode
+push-facts v e =
+    let t = passed (pushTests v) 0 tt e .0 in
+    record {
+      prepared = eqb-true (v .node .stage) PREPARED (not-false (eqb (v .node .stage) PREPARED) (clear 35 (pushTests v) t));
+      ready = clear 36 (pushTests v) t;
     }
 
 -- a code that is not of the tests of all is of the kind's own
@@ -171,9 +228,9 @@ asked-to k v r other e =
     let p = passed-to k (allTests v r) (kindCode v r) other e in
     let t = p .0 in (
       record {
-        kind = within-true (r .kind) 1 lastKind (not-false (within (r .kind) 1 lastKind) (t .0));
-        team = within-true (r .team) 1 (v .teams) (not-false (within (r .team) 1 (v .teams)) (t .1 .0));
-        node = within-true (r .node) 1 (v .used) (not-false (within (r .node) 1 (v .used)) (t .1 .1 .0));
+        kind = within-true (r .kind) 1 lastKind (not-false (within (r .kind) 1 lastKind) (clear 2 (allTests v r) t));
+        team = within-true (r .team) 1 (v .teams) (not-false (within (r .team) 1 (v .teams)) (clear 3 (allTests v r) t));
+        node = within-true (r .node) 1 (v .used) (not-false (within (r .node) 1 (v .used)) (clear 4 (allTests v r) t));
       },
       p .1,
     )
@@ -194,12 +251,14 @@ late-expand x h = go (childless x) refl
 -- 16 is given to no request but an expand, and of no node but one that has children
 module _ (v : View) (r : Request) where
   late-kind : kindCode v r ≡ 16 → Kind (natOf (r .kind)) → 0 < v .node .left
-  unfolding kindCode ownCode advanceCode markCode
+  unfolding kindCode ownCode advanceCode markCode reportCode pushCode
   late-kind h (own e) = let none = passed-to 16 (ownTests (v .node)) 0 tt (rw e at h) .1 in absurd (omega arith)
   late-kind h (advance e) = let none = passed-to 16 (advanceTests (v .node) r) 0 tt (rw e at h) .1 in absurd (omega arith)
   late-kind h (mark e) = let none = passed-to 16 (markTests v r) 0 tt (rw e at h) .1 in absurd (omega arith)
   late-kind h (expand e) = late-expand (v .node) (rw e at h)
   late-kind h (look e) = let none = rw e at h in absurd (omega arith)
+  late-kind h (report e) = let none = passed-to 16 (reportTests (v .node) r) 0 tt (rw e at h) .1 in absurd (omega arith)
+  late-kind h (push e) = let none = passed-to 16 (pushTests v) 0 tt (rw e at h) .1 in absurd (omega arith)
 
   pub record Late : Type 0 where
     pub asked : Asked (v .teams) (v .used) r
@@ -263,6 +322,14 @@ module _ (l : Ledger) (r : Request) where
     unfolding given granted changed looking view
     given-look e = rw e (looks asked)
 
+    given-report : natOf (r .kind) ≡ REPORT → Answers l r (natOf (r .kind)) given
+    unfolding given granted changed reporting view
+    given-report e = let f = report-facts x r (unfold kindCode in (rw e at code)) in rw e (reports asked f)
+
+    given-push : natOf (r .kind) ≡ PUSH → Answers l r (natOf (r .kind)) given
+    unfolding given granted changed pushing view
+    given-push e = let f = push-facts v (unfold kindCode in (rw e at code)) in rw e (pushes asked f)
+
     given-is : Answers l r (natOf (r .kind)) given
     given-is = go (kind-of (natOf (r .kind)) (asked .kind .low) (asked .kind .high))
       where
@@ -272,6 +339,8 @@ module _ (l : Ledger) (r : Request) where
         go (mark e) = given-mark e
         go (expand e) = given-expand e
         go (look e) = given-look e
+        go (report e) = given-report e
+        go (push e) = given-push e
 
 pub decided-granted : (v : View) (r : Request) → refusal v r ≡ 0 → decided v r ≡ granted v r
 unfolding decided
@@ -281,10 +350,50 @@ pub decided-refused : (v : View) (r : Request) → refusal v r ≢ 0 → decided
 unfolding decided
 decided-refused v r ne = rw (ne-eqb (refusal v r) 0 ne)
 
--- no decision looks at the children
+-- what holds of every grant holds of the one that is given
+pub each-granted : (P : Outcome → Type 0) (v : View) (r : Request) → P (owning v r) → P (advancing v r) → P (marking v r) → P (expanding v)
+    → P (looking v)
+    → P (reporting r)
+    → P pushing
+    → P (granted v r)
+unfolding granted
+each-granted P v r = each-kind P (natOf (r .kind)) (owning v r) (advancing v r) (marking v r) (expanding v) (looking v) (reporting r) pushing
+
+-- no decision of a kind of the table looks at the children
+module _ (v : View) (r : Request) where
+  same-decision : refusal (alone v) r ≡ refusal v r → granted (alone v) r ≡ granted v r → decided (alone v) r ≡ decided v r
+  unfolding decided
+  same-decision e f = rw (e, f)
+
+  same-refusal : kindCode (alone v) r ≡ kindCode v r → refusal (alone v) r ≡ refusal v r
+  unfolding refusal
+  same-refusal e = rw e
+
+  no-kind : natOf (r .kind) ≡ 0 → refusal (alone v) r ≡ refusal v r
+  unfolding refusal
+  no-kind e = rw (no-number (r .kind) lastKind e)
+
+  same-grant : granted (alone v) r ≡ granted v r
+  unfolding granted owning advancing marking expanding looking
+  same-grant = refl
+
+  kind-unseen : Kind (natOf (r .kind)) → natOf (r .kind) ≤ lastMover → kindCode (alone v) r ≡ kindCode v r
+  unfolding kindCode markCode
+  kind-unseen (own e) h = rw e
+  kind-unseen (advance e) h = rw e
+  kind-unseen (mark e) h = rw e
+  kind-unseen (expand e) h = rw e
+  kind-unseen (look e) h = rw e
+  kind-unseen (report e) h = absurd (omega arith)
+  kind-unseen (push e) h = absurd (omega arith)
+
 pub children-unseen : ChildrenUnseen
-unfolding decided refusal kindCode markCode granted owning advancing marking expanding looking
-children-unseen v r = refl
+children-unseen v r h = go (ℕ-discrete (natOf (r .kind)) 0)
+  where
+    go : Dec (natOf (r .kind) ≡ 0) → decided (alone v) r ≡ decided v r
+    go (yes e) = same-decision v r (no-kind v r e) (same-grant v r)
+    go (no ne) =
+        same-decision v r (same-refusal v r (kind-unseen v r (kind-of (natOf (r .kind)) (omega arith) (omega arith)) h)) (same-grant v r)
 
 pub answers : (l : Ledger) (r : Request) → Answers l r (natOf (r .kind)) (answered l r)
 unfolding answered given
@@ -311,3 +420,5 @@ settled (advances q f) = cleared refl
 settled (marks q f) = cleared refl
 settled (expands q f) = cleared refl
 settled (looks q) = cleared refl
+settled (reports q f) = cleared refl
+settled (pushes q f) = cleared refl

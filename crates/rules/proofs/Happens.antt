@@ -7,6 +7,7 @@ use lib.Dec.{eqb}
 use lib.IntN.{pos, negsuc}
 use lib.ListN.{drop, replicate}
 use borrow.Author.Tests.{eqb-true}
+use Rattle.rules.specs.Joining.{sameFinds}
 use Rattle.rules.specs.declared.Ledger.{Ledger}
 use Rattle.rules.specs.declared.Request.{Request}
 use Rattle.rules.specs.Asks.{OWN, ADVANCE, MARK, EXPAND, own, advance, mark, expand}
@@ -19,7 +20,7 @@ use Rattle.rules.specs.Refusals.{ownCode, advanceCode, markCode, expandC
 use Rattle.rules.specs.Requests.{owning, batchEnd, advancing, marking, expanding, granted, decided, view, changed, nodeIn, answered, requested}
 use Rattle.rules.specs.States.{AVAILABLE, OWNED, COMPLETED, STOLEN, EXPANDED, stateOf, stolenOf}
 use Rattle.rules.specs.Table.{at, put, nextPair, grown, sumBy, stolenIn}
-use Rattle.rules.specs.WellFormed.{upTo, aloneRule, childRule, nodeRule, leftIs, pairRule, Sized}
+use Rattle.rules.specs.WellFormed.{upTo, aloneRule, childRule, nodeRule, leftIs, pairRule, Sized, stageRule}
 use Rattle.rules.proofs.Examples.{inUse, good}
 use Rattle.rules.proofs.Facts.{both, either}
 
@@ -42,7 +43,7 @@ made m l r k slots rest t kind code s n =
     shows m (record { ledger = l; asked = r; sound = record { sized = slots; formed = w }; kind-is = kind; granted = rw w code; from-state = s; to-state = rw w n })
 
 shown : List Shown
-unfolding opens middle leftPart rightPart stateOf stolenOf at put nextPair grown sumBy stolenIn upTo aloneRule childRule nodeRule leftIs pairRule ownCode advanceCode markCode expandCode kindCode refusal owning batchEnd advancing marking expanding granted decided view changed answered
+unfolding opens middle leftPart rightPart stateOf stolenOf at put nextPair grown sumBy stolenIn upTo aloneRule childRule nodeRule leftIs pairRule ownCode advanceCode markCode expandCode kindCode refusal owning batchEnd advancing marking expanding granted decided view changed answered stageRule sameFinds
 shown =
     made (takes OWN AVAILABLE OWNED) (rooted 7 5 (pos 0) 0) (own 1 1) (slotsAfter 1) refl refl refl refl refl refl refl
     ∷ made (takes ADVANCE OWNED OWNED) (rooted 7 5 (pos 0) 1) (advance 1 1 (pos 0) 2) (slotsAfter 1) refl refl refl refl refl refl refl

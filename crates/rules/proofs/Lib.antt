@@ -1,4 +1,5 @@
 -- What follows from the definitions of specs/.
+pub mod Joining
 pub mod Nodes
 pub mod Tree
 pub mod Numbers
@@ -7,6 +8,7 @@ pub mod Sums
 pub mod States
 pub mod Facts
 pub mod Record
+pub mod Stages
 pub mod Tests
 pub mod Granted
 pub mod Effects
@@ -18,6 +20,7 @@ pub mod Keeps
 pub mod Opens
 pub mod Rooted
 pub mod TreeSum
+pub mod FindsFit
 pub mod Range
 pub mod Moves
 pub mod Examples

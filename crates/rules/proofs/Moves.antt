@@ -3,7 +3,7 @@ use mathlib.Core.Path.{_≡_, refl, ap}
 use mathlib.Core.Logic.{_≢_, _⊎_, inl, inr}
 use mathlib.Core.Bool.{Bool, true, false, false≢true}
 use mathlib.Core.List.{List, []}
-use Prim.Native.Nat.{ℕ, _+_, _*_}
+use Prim.Native.Nat.{ℕ, _+_, _*_, _≤_, _<_}
 use native.Mathlib.Omega.{arith}
 use lib.IntN.{pos, negsuc}
 use Rattle.numbers.specs.Progress.{negative}
@@ -13,13 +13,13 @@ use Rattle.rules.specs.declared.Ledger.{Ledger}
 use Rattle.rules.specs.declared.Request.{Request}
 use Rattle.rules.specs.declared.Answered.{Answered}
 use Rattle.rules.specs.Asks.{OWN, ADVANCE, MARK, EXPAND}
-use Rattle.rules.specs.Moves.{entryIn, leads, isIn}
-use Rattle.rules.specs.Nodes.{owned, moved, parted, marked, positionOf}
-use Rattle.rules.specs.Requests.{batchEnd, nodeIn}
+use Rattle.rules.specs.Moves.{lastMover, entryIn, leads, isIn}
+use Rattle.rules.specs.Nodes.{owned, moved, parted, reported, pushed, marked, positionOf}
+use Rattle.rules.specs.Requests.{batchEnd, findsIn, nodeIn}
 use Rattle.rules.specs.States.{AVAILABLE, OWNED, COMPLETED, STOLEN, EXPANDED, completed, stateOf}
 use Rattle.rules.specs.Table.{InUse, at, put, nextPair, stolenIn}
 use Rattle.rules.proofs.Effects.{Becomes, same, stored as put-there, forked}
-use Rattle.rules.proofs.Granted.{Asked, in-use, Owning, Advancing, Marking, Answers, refuses, owns, advances, marks, expands, looks}
+use Rattle.rules.proofs.Granted.{Asked, in-use, Owning, Advancing, Marking, Answers, refuses, owns, advances, marks, expands, looks, reports, pushes}
 use Rattle.rules.proofs.Expand.{split-slots, stays}
 use Rattle.rules.proofs.Nodes.{at-same, at-other}
 use Rattle.rules.proofs.Record.{WF, in-table, no-children}
@@ -44,7 +44,7 @@ module _ (l : Ledger) (w : WF l) (r : Request) (asked : Asked (l .teams) (l .use
   own-leads : Owning x → Leads x OWN (owned x (natOf (r .team)))
   unfolding leads entryIn isIn
   own-leads o =
-      let plain = ap negative (w .alone n (in-use l r asked) .unowned (o .nobody)) in
+      let plain = ap negative (w .node n (in-use l r asked) .alone .unowned (o .nobody)) in
       let y = owned x (natOf (r .team)) in
       leads-by
       x
@@ -111,17 +111,35 @@ module _ (l : Ledger) (w : WF l) (r : Request) (asked : Asked (l .teams) (l .use
 
 -- ---- any request
 
-pub moves : {l : Ledger} {r : Request} {k : ℕ} {a : Answered} → WF l → Answers l r k a
+pub moves : {l : Ledger} {r : Request} {k : ℕ} {a : Answered} → WF l → Answers l r k a → k ≤ lastMover
     → (a .ledger ≡ l) ⊎ Leads (at l (nodeIn r)) k (at (a .ledger) (nodeIn r))
-moves w (refuses h) = inl refl
-moves {l} {r} w (owns q f) = inr (stored l w r q (owned (at l (nodeIn r)) (natOf (r .team))) OWN (own-leads l w r q f))
-moves {l} {r} w (advances q f) =
+moves w (refuses h) i = inl refl
+moves {l} {r} w (owns q f) i = inr (stored l w r q (owned (at l (nodeIn r)) (natOf (r .team))) OWN (own-leads l w r q f))
+moves {l} {r} w (advances q f) i =
     inr (stored l w r q (moved (at l (nodeIn r)) (pos (batchEnd (at l (nodeIn r)) r))) ADVANCE (advance-leads l w r q f))
-moves {l} {r} w (marks q f) =
+moves {l} {r} w (marks q f) i =
     inr (stored l w r q (moved (at l (nodeIn r)) (negsuc (positionOf (at l (nodeIn r))))) MARK (mark-leads l w r q f))
-moves {l} {r} w (expands q f) =
+moves {l} {r} w (expands q f) i =
     inr (rw (split-slots l w (nodeIn r) (in-use l r q) f .here) (expand-leads l w r q f))
-moves w (looks q) = inl refl
+moves w (looks q) i = inl refl
+moves w (reports q f) i = absurd (omega arith)
+moves w (pushes q f) i = absurd (omega arith)
+
+-- the kinds past the table keep the state
+pub keeps-state : {l : Ledger} {r : Request} {k : ℕ} {a : Answered} → WF l → Answers l r k a → lastMover < k
+    → stateOf (at (a .ledger) (nodeIn r)) ≡ stateOf (at l (nodeIn r))
+keeps-state w (refuses h) i = refl
+keeps-state w (owns q f) i = absurd (omega arith)
+keeps-state w (advances q f) i = absurd (omega arith)
+keeps-state w (marks q f) i = absurd (omega arith)
+keeps-state w (expands q f) i = absurd (omega arith)
+keeps-state w (looks q) i = refl
+keeps-state {l} {r} w (reports q f) i =
+    unfold stateOf in
+    (rw (at-same l (nodeIn r) (reported (at l (nodeIn r)) (findsIn r)) (q .node .low) (in-table l w (nodeIn r) (in-use l r q))))
+keeps-state {l} {r} w (pushes q f) i =
+    unfold stateOf in
+    (rw (at-same l (nodeIn r) (pushed (at l (nodeIn r)) _) (q .node .low) (in-table l w (nodeIn r) (in-use l r q))))
 
 pub others : {l k : Ledger} {n : ℕ} → WF l → Becomes l n k → (m : ℕ) → InUse l m → m ≢ n → at k m ≡ at l m
 others w same m u ne = refl

@@ -14,8 +14,8 @@ use Rattle.rules.specs.Limits.{opens, maxUntil, maxTeams, maxCap, maxNod
 use Rattle.rules.specs.Nodes.{blank, fresh}
 use Rattle.rules.specs.Opening.{opened, opening, ledgerOf, closed}
 use Rattle.rules.specs.States.{stolenOf}
-use Rattle.rules.specs.Table.{InUse, at, sumBy, stolenIn}
-use Rattle.rules.proofs.Expand.{alone-fresh}
+use Rattle.rules.specs.Table.{at, sumBy, stolenIn}
+use Rattle.rules.proofs.Expand.{good-fresh}
 use Rattle.rules.proofs.Facts.{both}
 use Rattle.rules.proofs.Record.{Limited, WF}
 use Rattle.rules.proofs.States.{fresh-none, blank-none}
@@ -59,22 +59,12 @@ module _ (k a b teams room : ℕ) (slots : k + 1 ≡ maxNodes) (limits : Limited
         limits = limits;
         slots = omega (arith, length-replicate k blank, slots);
         odd = refl;
-        used-room = limits .room-low;
-        root-start = rw root-is;
-        root-until = rw root-is;
-        alone = λ n u. rw (only n u, root-is) (alone-fresh teams a b (limits .ordered));
-        pair = λ n u h. absurd (no-children-of n u h);
-        later = λ n u h. absurd (no-children-of n u h);
-        parent = λ c p q e. absurd (omega arith);
+        root = rw root-is (record { start = refl; until = refl });
+        node = λ n u. let e : n ≡ 1 = omega (arith, u .low, u .high) in rw (e, root-is) (good-fresh a b (limits .ordered));
+        parent = λ c u e. absurd (omega (arith, u .low, u .high));
         loaded = light;
         blank = blank-is;
       }
-    where
-      only : (n : ℕ) → InUse l n → n ≡ 1
-      only n u = omega (arith, u .low, u .high)
-
-      no-children-of : (n : ℕ) → InUse l n → 0 < at l n .left → ⊥
-      no-children-of n u h = let z : 0 < 0 = rw (only n u, root-is) at h in omega arith
 
 pub opened-wf-of : (a b teams room : ℕ) → Limited a b teams room → WF (opened a b teams room)
 unfolding opened

@@ -19,40 +19,40 @@ module _ (l : Ledger) (w : WF l) where
   root-ranged : Ranged l 1
   root-ranged =
       record {
-        low = omega (arith, w .root-start);
-        ordered = omega (arith, w .root-start, w .root-until, w .limits .ordered);
-        high = omega (arith, w .root-until);
+        low = omega (arith, w .root .start);
+        ordered = omega (arith, w .root .start, w .root .until, w .limits .ordered);
+        high = omega (arith, w .root .until);
       }
 
   -- both children of a node that lies in the range do
   module _ (c m : ℕ) (u : InUse l m) (is : at l m .left ≡ c) (some : 0 < c) (r : Ranged l m) where
-    children : Pair (at l) (l .used) (at l m)
-    children = w .pair m u (omega arith)
+    children : Pair (at l) (l .used) m (at l m)
+    children = w .node m u .pair (omega arith)
 
     left-ranged : Ranged l c
     unfolding middle
     left-ranged =
-        let a = w .alone m u in
+        let a = w .node m u .alone in
         let p = children in
         rw
         (← is)
         (record {
-          low = omega (arith, r .low, a .low, p .left-start);
-          ordered = omega (arith, p .left-start, p .left-until);
-          high = omega (arith, r .high, a .high, p .left-until);
+          low = omega (arith, r .low, a .low, p .left .start);
+          ordered = omega (arith, p .left .start, p .left .until);
+          high = omega (arith, r .high, a .high, p .left .until);
         })
 
     right-ranged : Ranged l (c + 1)
     unfolding middle
     right-ranged =
-        let a = w .alone m u in
+        let a = w .node m u .alone in
         let p = children in
         rw
         (← is)
         (record {
-          low = omega (arith, r .low, a .low, p .right-start);
-          ordered = omega (arith, a .high, p .right-start, p .right-until);
-          high = omega (arith, r .high, p .right-until);
+          low = omega (arith, r .low, a .low, p .right .start);
+          ordered = omega (arith, a .high, p .right .start, p .right .until);
+          high = omega (arith, r .high, p .right .until);
         })
 
   pub within-range : (n : ℕ) → InUse l n → Ranged l n

@@ -34,9 +34,6 @@ not-one c e f = absurd (omega arith)
 not-next : (c : ℕ) → 0 < c → 1 ≢ c + 1
 not-next c p = omega arith
 
-odd-below : (m u : ℕ) → m ≤ u → u % 2 ≡ 1 → m % 2 ≡ 0 → m < u
-odd-below m u h o e = omega arith
-
 -- ---- the tree
 
 module _ (l : Ledger) (w : WF l) where
@@ -48,7 +45,7 @@ module _ (l : Ledger) (w : WF l) where
       go (yes e) below = leaf u e
       go (no ne) below =
           let some : 0 < at l n .left = omega arith in
-          let late = w .later n u some in
+          let late = w .node n u .pair some .later in
           fork
           {c = at l n .left}
           u
@@ -58,7 +55,7 @@ module _ (l : Ledger) (w : WF l) where
           (below (at l n .left + 1) (right-used l w n u some) (omega arith))
 
   child-after : (n c : ℕ) → InUse l n → 0 < c → at l n .left ≡ c → n < c
-  child-after n c u some e = rw e at (w .later n u (omega arith))
+  child-after n c u some e = rw e at (w .node n u .pair (omega arith) .later)
 
   -- no number below the top stands in a tree
   none-below : {n : ℕ} (x : Tree l n) (m : ℕ) → m < n → times m x ≡ 0
@@ -100,7 +97,7 @@ module _ (l : Ledger) (w : WF l) where
     with-parent (fork {n = n} {c = d} u some e x y) = go (ℕ-discrete d c) (with-parent x) (with-parent y)
       where
         even-d : d % 2 ≡ 0
-        even-d = rw e at (w .pair n u (omega arith) .even)
+        even-d = rw e at (w .node n u .pair (omega arith) .even)
 
         go : Dec (d ≡ c) → With x → With y → With (fork {n = n} {c = d} u some e x y)
         go (yes f) a b =
@@ -117,12 +114,12 @@ module _ (l : Ledger) (w : WF l) where
               right = omega (arith, a .right, b .right, none, same-none d (c + 1) (omega (arith, even-d)), same-none (d + 1) (c + 1) (omega arith));
             }
 
-  parent-of : (c : ℕ) → 0 < c → c < l .used → c % 2 ≡ 0 → Parent c
-  parent-of c p q e =
+  parent-of : (c : ℕ) → InUse l c → c % 2 ≡ 0 → Parent c
+  parent-of c u e =
       record { node = slot + 1; used = used; is = is; only = λ n v f. only n v f (ℕ-discrete n (slot + 1)) }
     where
       found : Adds (leftIs c) (l .nodes)
-      found = sumBy-some (leftIs c) (l .nodes) (omega (arith, w .parent c p q e))
+      found = sumBy-some (leftIs c) (l .nodes) (omega (arith, w .parent c u e))
 
       slot : ℕ
       slot = found .slot
@@ -142,7 +139,7 @@ module _ (l : Ledger) (w : WF l) where
       only n v f (no g) =
           absurd
           (omega
-          (arith, w .parent c p q e, is-left c (at l n) f, is-left c (at l (slot + 1)) is, two-of l (leftIs c) n (slot + 1) (v .low) (in-table l w n v) (used .low) (in-table l w (slot + 1) used) g (no-left c blank (omega arith))))
+          (arith, w .parent c u e, is-left c (at l n) f, is-left c (at l (slot + 1)) is, two-of l (leftIs c) n (slot + 1) (v .low) (in-table l w n v) (used .low) (in-table l w (slot + 1) used) g (no-left c blank (omega arith))))
 
   root : Tree l 1
   root = grow (l .used) 1 (root-used l w) (omega arith)
@@ -155,16 +152,16 @@ module _ (l : Ledger) (w : WF l) where
       omega (arith, same-one n n refl, none-below x n late, none-below y n (omega arith))
 
   -- so often as its parent, once
-  pair-once : (c : ℕ) (p : 0 < c) (q : c < l .used) (e : c % 2 ≡ 0) → ((j : ℕ) → j < c → InUse l j → times j root ≡ 1)
+  pair-once : (c : ℕ) (u : InUse l c) (e : c % 2 ≡ 0) → ((j : ℕ) → j < c → InUse l j → times j root ≡ 1)
       → (times c root ≡ 1) × (times (c + 1) root ≡ 1)
-  pair-once c p q e below = go (parent-of c p q e)
+  pair-once c u e below = go (parent-of c u e)
     where
       go : Parent c → (times c root ≡ 1) × (times (c + 1) root ≡ 1)
       go f =
-          let both = with-parent c p e f root in
-          let one = below (f .node) (child-after (f .node) c (f .used) p (f .is)) (f .used) in (
+          let both = with-parent c (u .low) e f root in
+          let one = below (f .node) (child-after (f .node) c (f .used) (u .low) (f .is)) (f .used) in (
             sum-one (times c root) (sameAs 1 c) (times (f .node) root) (both .left) (same-none 1 c (not-one c e)) one,
-            sum-one (times (c + 1) root) (sameAs 1 (c + 1)) (times (f .node) root) (both .right) (same-none 1 (c + 1) (not-next c p)) one,
+            sum-one (times (c + 1) root) (sameAs 1 (c + 1)) (times (f .node) root) (both .right) (same-none 1 (c + 1) (not-next c (u .low))) one,
           )
 
   once : (k m : ℕ) → m < k → InUse l m → times m root ≡ 1
@@ -173,13 +170,11 @@ module _ (l : Ledger) (w : WF l) where
     where
       go : Dec (m ≡ 1) → Dec (m % 2 ≡ 0) → ((j : ℕ) → j < k → InUse l j → times j root ≡ 1) → times m root ≡ 1
       go (yes e) d below = rw e (once-root root)
-      go (no ne) (yes e) below =
-          pair-once m (u .low) (odd-below m (l .used) (u .high) (w .odd) e) e (λ j a v. below j (omega arith) v) .0
+      go (no ne) (yes e) below = pair-once m u e (λ j a v. below j (omega arith) v) .0
       go (no ne) (no e) below =
           let j : m - 1 + 1 ≡ m = omega arith in
-          let p = u .low in
-          let q = u .high in
-          rw j at (pair-once (m - 1) (omega arith) (omega arith) (omega arith) (λ i a v. below i (omega arith) v) .1)
+          let left : InUse l (m - 1) = record { low = omega (arith, u .low); high = omega (arith, u .high) } in
+          rw j at (pair-once (m - 1) left (omega arith) (λ i a v. below i (omega arith) v) .1)
 
   pub rooted : Rooted l
   rooted = record { tree = root; once = λ m u. once (m + 1) m (omega arith) u; none = none-past root }

@@ -20,32 +20,65 @@ EXPAND = 4
 abbrev pub LOOK : ℕ
 LOOK = 5
 
--- the kinds are 1 to 5
+-- "Reporting is request 6, with three more fields, pushing request 7."
+abbrev pub REPORT : ℕ
+REPORT = 6
+
+abbrev pub PUSH : ℕ
+PUSH = 7
+
+-- "kinds are now 1 to 7"
 abbrev pub lastKind : ℕ
-lastKind = LOOK
+lastKind = PUSH
 
 -- one case for each kind
-abbrev pub byKind {ℓ} : {A : Type ℓ} → ℕ → A → A → A → A → A → A
-byKind k own advance mark expand look =
-    cond (eqb k OWN) own (cond (eqb k ADVANCE) advance (cond (eqb k MARK) mark (cond (eqb k EXPAND) expand look)))
+abbrev pub byKind {ℓ} : {A : Type ℓ} → ℕ → A → A → A → A → A → A → A → A
+byKind k own advance mark expand look report push =
+    cond
+    (eqb k OWN)
+    own
+    (cond
+    (eqb k ADVANCE)
+    advance
+    (cond (eqb k MARK) mark (cond (eqb k EXPAND) expand (cond (eqb k LOOK) look (cond (eqb k REPORT) report push)))))
 
--- kind, team, node, position, amount
-abbrev pub request : ℤ → ℤ → ℤ → ℤ → ℤ → Request
-request kind team n p k = record { kind = kind; team = team; node = n; position = p; amount = k }
+-- kind, team, node, position, amount; count, first and last label
+abbrev pub request : ℤ → ℤ → ℤ → ℤ → ℤ → ℤ → ℤ → ℤ → Request
+request kind team n p k count first last =
+    record {
+      kind = kind;
+      team = team;
+      node = n;
+      position = p;
+      amount = k;
+      count = count;
+      first = first;
+      last = last;
+    }
+
+-- a request that reports nothing
+abbrev pub plain : ℤ → ℤ → ℤ → ℤ → ℤ → Request
+plain kind team n p k = request kind team n p k (pos 0) (pos 0) (pos 0)
 
 -- ---- the requests of a team t on a node n. Fields that a kind has no use of are 0
 
 abbrev pub own : ℕ → ℕ → Request
-own t n = request (pos OWN) (pos t) (pos n) (pos 0) (pos 0)
+own t n = plain (pos OWN) (pos t) (pos n) (pos 0) (pos 0)
 
 abbrev pub advance : ℕ → ℕ → ℤ → ℕ → Request
-advance t n p k = request (pos ADVANCE) (pos t) (pos n) p (pos k)
+advance t n p k = plain (pos ADVANCE) (pos t) (pos n) p (pos k)
 
 abbrev pub mark : ℕ → ℕ → ℤ → Request
-mark t n p = request (pos MARK) (pos t) (pos n) p (pos 0)
+mark t n p = plain (pos MARK) (pos t) (pos n) p (pos 0)
 
 abbrev pub expand : ℕ → ℕ → Request
-expand t n = request (pos EXPAND) (pos t) (pos n) (pos 0) (pos 0)
+expand t n = plain (pos EXPAND) (pos t) (pos n) (pos 0) (pos 0)
 
 abbrev pub look : ℕ → ℕ → Request
-look t n = request (pos LOOK) (pos t) (pos n) (pos 0) (pos 0)
+look t n = plain (pos LOOK) (pos t) (pos n) (pos 0) (pos 0)
+
+abbrev pub report : ℕ → ℕ → ℕ → ℕ → ℕ → Request
+report t n count first last = request (pos REPORT) (pos t) (pos n) (pos 0) (pos 0) (pos count) (pos first) (pos last)
+
+abbrev pub push : ℕ → ℕ → Request
+push t n = plain (pos PUSH) (pos t) (pos n) (pos 0) (pos 0)

@@ -3,7 +3,7 @@ use mathlib.Core.Path.{_≡_}
 use mathlib.Core.Logic.{_≢_, _⊎_}
 use mathlib.Core.Bool.{true}
 use mathlib.Core.List.{[]}
-use Prim.Native.Nat.{ℕ, _+_, _-_, _≤_}
+use Prim.Native.Nat.{ℕ, _+_, _-_, _*_, _≤_, _<_}
 use Rattle.numbers.specs.Fields.{natOf}
 use Rattle.rules.specs.declared.Answer.{Answer}
 use Rattle.rules.specs.declared.Ledger.{Ledger}
@@ -13,9 +13,10 @@ use Rattle.rules.specs.declared.Request.{Request}
 use Rattle.rules.specs.declared.View.{View}
 use Rattle.rules.specs.Count.{unclaimed, counted}
 use Rattle.rules.specs.Examples.{examples, AllRight}
+use Rattle.rules.specs.Joining.{maxFinds}
 use Rattle.rules.specs.Limits.{maxUntil}
-use Rattle.rules.specs.Moves.{leads, isIn}
-use Rattle.rules.specs.Nodes.{blank, fresh, positionOf, leftOver, marked, leftPart, rightPart}
+use Rattle.rules.specs.Moves.{lastMover, leads, isIn}
+use Rattle.rules.specs.Nodes.{blank, fresh, positionOf, leftOver, marked, leftPart, rightPart, joinedOf}
 use Rattle.rules.specs.Opening.{opening}
 use Rattle.rules.specs.Requests.{nodeIn, refusing, decided, view, alone, requested}
 use Rattle.rules.specs.States.{OWNED, COMPLETED, STOLEN, stateOf}
@@ -49,7 +50,7 @@ LateSplitterTold =
 
 -- No request of the kinds 1 to 5 looks at its node's children.
 abbrev pub ChildrenUnseen : Type 0
-ChildrenUnseen = (v : View) (r : Request) → decided (alone v) r ≡ decided v r
+ChildrenUnseen = (v : View) (r : Request) → natOf (r .kind) ≤ lastMover → decided (alone v) r ≡ decided v r
 
 -- A pair to take: both its slots are within the room, and all 0.
 pub record HasPair (l : Ledger) : Type 0 where
@@ -89,14 +90,23 @@ CountAtMost = (l : Ledger) → Sound l → unclaimed l ≤ l .until - l .start
 abbrev pub CountFits : Type 0
 CountFits = (l : Ledger) → Sized l → counted l .count ≤ maxUntil
 
+-- A node's joined count is at most that of the largest report for each node in use, so it fits 32 bits.
+abbrev pub JoinedFits : Type 0
+JoinedFits =
+    (l : Ledger) (n : ℕ) → Sound l → InUse l n
+    → joinedOf (at l n) (at l (at l n .left)) (at l (at l n .left + 1)) .count ≤ maxFinds * l .used
+
 -- What the rule of moves says of a request r that makes a ledger l into another.
 pub record Moves (l : Ledger) (r : Request) (next : Ledger) : Type 0 where
   -- every other node in use stays as it was
   pub others : (m : ℕ) → InUse l m → m ≢ nodeIn r → at next m ≡ at l m
   -- its own node moves as the rule has it, or nothing changes
-  pub moves : (next ≡ l) ⊎ (isIn (stateOf (at next (nodeIn r))) (leads (stateOf (at l (nodeIn r))) (natOf (r .kind))) ≡ true)
+  pub moves : natOf (r .kind) ≤ lastMover
+      → (next ≡ l) ⊎ (isIn (stateOf (at next (nodeIn r))) (leads (stateOf (at l (nodeIn r))) (natOf (r .kind))) ≡ true)
   -- and where the rule has no move, nothing changes
-  pub none : leads (stateOf (at l (nodeIn r))) (natOf (r .kind)) ≡ [] → next ≡ l
+  pub none : natOf (r .kind) ≤ lastMover → leads (stateOf (at l (nodeIn r))) (natOf (r .kind)) ≡ [] → next ≡ l
+  -- the kinds past the table move only the stage
+  pub stays : lastMover < natOf (r .kind) → stateOf (at next (nodeIn r)) ≡ stateOf (at l (nodeIn r))
 
 -- Every request on a well-formed ledger follows the rule of moves.
 abbrev pub RequestsFollowMoves : Type 0

@@ -10,14 +10,16 @@ use Rattle.rules.specs.declared.Request.{Request}
 use Rattle.rules.specs.declared.Answer.{Answer}
 use Rattle.rules.specs.Asks.{own, advance, mark, expand}
 use Rattle.rules.specs.Limits.{slotsAfter}
-use Rattle.rules.specs.Nodes.{blank, fresh}
+use Rattle.rules.specs.Joining.{none}
+use Rattle.rules.specs.Nodes.{makeNode, blank, stageFor, fresh}
 use Rattle.rules.specs.Requests.{refused, ranged, split, requested}
 use Rattle.rules.specs.Count.{counted}
 
 -- ---- ledgers of two teams
 
+-- a node of which nothing is reported
 abbrev pub node : ℕ → ℕ → ℤ → ℕ → ℕ → Node
-node a b p owner left = record { start = a; until = b; progress = p; owner = owner; left = left }
+node a b p owner left = makeNode a b p owner left none none (stageFor a b)
 
 -- a ledger that has only its root, from 0, with an owner
 abbrev pub rooted : ℕ → ℕ → ℤ → ℕ → Ledger

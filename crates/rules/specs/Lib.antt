@@ -1,5 +1,6 @@
 -- Document 01's ledger, in its own order: limits, nodes and their states, the kinds of requests, the moves, well formed, the requests, the count; then the demands.
 pub mod Limits
+pub mod Joining
 pub mod Nodes
 pub mod States
 pub mod Asks

@@ -2,15 +2,16 @@
 use Prim.Native.Nat.{ℕ, _+_, _*_}
 use mathlib.Core.Bool.{Bool, not}
 use mathlib.Core.List.{List, [], _∷_}
-use lib.Dec.{ltb}
+use lib.Dec.{ltb, eqb}
 use Rattle.numbers.specs.Fields.{isNat, within, sameNumber, natOf}
 use Rattle.rules.specs.declared.Node.{Node}
 use Rattle.rules.specs.declared.Request.{Request}
 use Rattle.rules.specs.declared.View.{View}
 use Rattle.rules.specs.Limits.{maxAmount}
 use Rattle.rules.specs.Asks.{byKind, lastKind}
-use Rattle.rules.specs.Nodes.{marked, unowned, childless}
-use Rattle.rules.specs.States.{completed}
+use Rattle.rules.specs.Joining.{reportable}
+use Rattle.rules.specs.Nodes.{UNREPORTED, PREPARED, marked, unowned, childless}
+use Rattle.rules.specs.States.{completed, ended, isPushed, unready}
 use Rattle.rules.specs.Tests.{Test, _when_, first}
 
 -- all: second, third, fourth
@@ -51,6 +52,24 @@ markTests v r =
 abbrev pub expandTests : Node → List Test
 expandTests x = (15 when not (marked x)) ∷ (16 when not (childless x)) ∷ []
 
+-- "reporting tests 8 not the owner, 31 not ended, 32 reported before, 33 count or label outside 0 to 1,000,000, or a label not 0 for a
+-- count of 0"
+abbrev pub reportTests : Node → Request → List Test
+reportTests x r =
+    (8 when not (isNat (r .team) (x .owner)))
+    ∷ (31 when not (ended x))
+    ∷ (32 when not (eqb (x .stage) UNREPORTED))
+    ∷ (33 when not (reportable (r .count) (r .first) (r .last)))
+    ∷ []
+
+-- "pushing tests 34 pushed before, 35 no report, 36 not COMPLETED and children absent or not pushed"
+abbrev pub pushTests : View → List Test
+pushTests v =
+    (34 when isPushed (v .node))
+    ∷ (35 when not (eqb (v .node .stage) PREPARED))
+    ∷ (36 when unready (v .node) (v .left) (v .right))
+    ∷ []
+
 unfoldable pub ownCode : Node → ℕ
 ownCode x = first (ownTests x) 0
 
@@ -63,8 +82,23 @@ markCode v r = first (markTests v r) 0
 unfoldable pub expandCode : Node → ℕ
 expandCode x = first (expandTests x) 0
 
+unfoldable pub reportCode : Node → Request → ℕ
+reportCode x r = first (reportTests x r) 0
+
+unfoldable pub pushCode : View → ℕ
+pushCode v = first (pushTests v) 0
+
 unfoldable pub kindCode : View → Request → ℕ
-kindCode v r = byKind (natOf (r .kind)) (ownCode (v .node)) (advanceCode (v .node) r) (markCode v r) (expandCode (v .node)) 0
+kindCode v r =
+    byKind
+    (natOf (r .kind))
+    (ownCode (v .node))
+    (advanceCode (v .node) r)
+    (markCode v r)
+    (expandCode (v .node))
+    0
+    (reportCode (v .node) r)
+    (pushCode v)
 
 -- the code of a request, 0 where it is granted
 unfoldable pub refusal : View → Request → ℕ

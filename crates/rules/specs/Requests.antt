@@ -1,10 +1,11 @@
--- The five requests: what a granted one answers and does, a refusal, and the request on a ledger.
+-- The requests: what a granted one answers and does, a refusal, and the request on a ledger.
 use Prim.Native.Nat.{ℕ, _+_, min}
 use mathlib.Core.Bool.{cond}
 use lib.IntN.{pos}
 use lib.Dec.{eqb}
 use Rattle.numbers.specs.Progress.{mark}
 use Rattle.numbers.specs.Fields.{natOf}
+use Rattle.rules.specs.declared.Finds.{Finds}
 use Rattle.rules.specs.declared.Node.{Node}
 use Rattle.rules.specs.declared.Ledger.{Ledger}
 use Rattle.rules.specs.declared.Request.{Request}
@@ -12,10 +13,11 @@ use Rattle.rules.specs.declared.Answer.{Answer}
 use Rattle.rules.specs.declared.Answered.{Answered}
 use Rattle.rules.specs.declared.View.{View}
 use Rattle.rules.specs.declared.Change.{Change}
-use Rattle.rules.specs.declared.Change.the-variants.{Keep, Own, Advance, Mark, Split}
+use Rattle.rules.specs.declared.Change.the-variants.{Keep, Own, Advance, Mark, Split, Report, Push}
 use Rattle.rules.specs.declared.Outcome.{Outcome}
 use Rattle.rules.specs.Asks.{byKind}
-use Rattle.rules.specs.Nodes.{blank, owned, moved, parted, positionOf, middle, leftPart, rightPart}
+use Rattle.rules.specs.Joining.{finds}
+use Rattle.rules.specs.Nodes.{blank, owned, moved, parted, reported, pushed, positionOf, middle, leftPart, rightPart, joinedOf}
 use Rattle.rules.specs.States.{stateOf}
 use Rattle.rules.specs.Table.{at, put, nextPair, grown, stolenIn}
 use Rattle.rules.specs.Refusals.{refusal}
@@ -51,6 +53,10 @@ abbrev pub seen : Node → Answer
 seen x =
     record { code = 0; state = stateOf x; «from» = positionOf x; to = x .until; owner = x .owner; left = x .left }
 
+-- "granted, both answer code 0 alone"
+abbrev pub done : Answer
+done = refused 0
+
 abbrev pub outcome : Answer → Change → Outcome
 outcome a c = record { answer = a; change = c }
 
@@ -81,8 +87,29 @@ expanding v = outcome (split (v .pair) (middle (v .node))) (Split (v .pair))
 unfoldable pub looking : View → Outcome
 looking v = outcome (seen (v .node)) Keep
 
+-- the result that a request reports
+abbrev pub findsIn : Request → Finds
+findsIn r = finds (natOf (r .count)) (natOf (r .first)) (natOf (r .last))
+
+-- "the node is then prepared"
+unfoldable pub reporting : Request → Outcome
+reporting r = outcome done (Report (findsIn r))
+
+-- the node is then pushed, with the joined result of its own and its children's
+unfoldable pub pushing : Outcome
+pushing = outcome done Push
+
 unfoldable pub granted : View → Request → Outcome
-granted v r = byKind (natOf (r .kind)) (owning v r) (advancing v r) (marking v r) (expanding v) (looking v)
+granted v r =
+    byKind
+    (natOf (r .kind))
+    (owning v r)
+    (advancing v r)
+    (marking v r)
+    (expanding v)
+    (looking v)
+    (reporting r)
+    pushing
 
 -- granted where no test holds, and else refused with the first's code, changing nothing
 unfoldable pub decided : View → Request → Outcome
@@ -125,6 +152,8 @@ changed l n (Advance p) = put l n (moved (at l n) (pos p))
 changed l n (Mark p) = put l n (moved (at l n) (mark (pos p)))
 changed l n (Split c) =
     grown (put (put (put l n (parted (at l n) c)) c (leftPart (at l n))) (c + 1) (rightPart (at l n))) c
+changed l n (Report f) = put l n (reported (at l n) f)
+changed l n Push = put l n (pushed (at l n) (joinedOf (at l n) (at l (at l n .left)) (at l (at l n .left + 1))))
 
 abbrev pub nodeIn : Request → ℕ
 nodeIn r = natOf (r .node)

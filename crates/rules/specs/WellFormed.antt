@@ -10,7 +10,9 @@ use Rattle.numbers.specs.Fields.{isNat}
 use Rattle.rules.specs.declared.Node.{Node}
 use Rattle.rules.specs.declared.Ledger.{Ledger}
 use Rattle.rules.specs.Limits.{opens, maxNodes}
-use Rattle.rules.specs.Nodes.{marked, unowned, childless, positionOf, middle}
+use Rattle.rules.specs.Joining.{passing, sameFinds, isNone}
+use Rattle.rules.specs.Nodes.{UNREPORTED, PREPARED, PUSHED, marked, unowned, childless, positionOf, middle, joinedOf}
+use Rattle.rules.specs.States.{ended, isPushed, unready}
 use Rattle.rules.specs.Table.{at, sumBy, stolenIn}
 
 -- each of the numbers 1 to k passes the test
@@ -80,9 +82,38 @@ leftRule n used left = eqb (left % 2) 0 && ltb n left && ltb left used
 unfoldable pub childRule : ℕ → ℕ → Node → Node → Node → Bool
 childRule n used x a b = childless x || (marked x && leftRule n used (x .left) && rangesRule x a b)
 
+-- ---- a node's report: x, with the children a and b
+
+-- "none, both results 0"
+abbrev pub noneRule : Node → Bool
+noneRule x = not (eqb (x .stage) UNREPORTED) || (isNone (x .own) && isNone (x .joined))
+
+-- "prepared, an ended node, own result passing 33, joined 0"
+abbrev pub preparedRule : Node → Bool
+preparedRule x = not (eqb (x .stage) PREPARED) || (ended x && passing (x .own) && isNone (x .joined))
+
+-- "pushed, own passing 33, joined the join, and 36 not given"
+abbrev pub pushedRule : Node → Node → Node → Bool
+pushedRule x a b =
+    not (isPushed x) || (passing (x .own) && sameFinds (x .joined) (joinedOf x a b) && not (unready x a b))
+
+-- "Empty nodes [..] stay pushed with both results 0"
+abbrev pub emptyPushed : Node → Bool
+emptyPushed x = not (eqb (x .start) (x .until)) || (isPushed x && isNone (x .own) && isNone (x .joined))
+
+-- there is no stage past pushed
+abbrev pub stageLimit : Node → Bool
+stageLimit x = leb (x .stage) PUSHED
+
+unfoldable pub stageRule : Node → Node → Node → Bool
+stageRule x a b = stageLimit x && noneRule x && preparedRule x && pushedRule x a b && emptyPushed x
+
 unfoldable pub nodeRule : Ledger → ℕ → Bool
 nodeRule l n =
-    aloneRule (l .teams) (at l n) && childRule n (l .used) (at l n) (at l (at l n .left)) (at l (at l n .left + 1))
+    let x = at l n in
+    let a = at l (x .left) in
+    let b = at l (x .left + 1) in
+    aloneRule (l .teams) x && childRule n (l .used) x a b && stageRule x a b
 
 -- ---- the whole table
 
@@ -100,7 +131,14 @@ roomRule l = leb (l .used + 2 * stolenIn l) (l .room)
 
 abbrev pub isBlank : Node → Bool
 isBlank x =
-    eqb (x .start) 0 && eqb (x .until) 0 && isNat (x .progress) 0 && eqb (x .owner) 0 && eqb (x .left) 0
+    eqb (x .start) 0
+    && eqb (x .until) 0
+    && isNat (x .progress) 0
+    && eqb (x .owner) 0
+    && eqb (x .left) 0
+    && isNone (x .own)
+    && isNone (x .joined)
+    && eqb (x .stage) 0
 
 -- "unused slots are all 0"
 unfoldable pub unusedRule : Ledger → ℕ → Bool

@@ -12,13 +12,24 @@ pub struct Opening {
     pub nodes: i32,
 }
 
-// A node: its range start..until, its progress, its owner (0 is nobody) and its left child (0 is none).
+// A result: a count of finds, with the labels of the first and of the last.
+pub struct Finds {
+    pub count: u32,
+    pub first: u32,
+    pub last: u32,
+}
+
+// A node: its range start..until, its progress, its owner (0 is nobody) and its left child (0 is none); its own result, that joined with its
+// children's, and how far its report has come.
 pub struct Node {
     pub start: u32,
     pub until: u32,
     pub progress: i32,
     pub owner: u32,
     pub left: u32,
+    pub own: Finds,
+    pub joined: Finds,
+    pub stage: u32,
 }
 
 // Node n stands in slot n - 1 of the table.
@@ -43,6 +54,9 @@ pub struct Request {
     pub node: i32,
     pub position: i32,
     pub amount: i32,
+    pub count: i32,
+    pub first: i32,
+    pub last: i32,
 }
 
 pub struct Answer {
@@ -72,14 +86,16 @@ pub struct View {
     pub right: Node,
 }
 
-// What a request does to its node, and no more: nothing; the owner becomes a team; the progress becomes a position, or the mark of one; or the
-// node gets a pair of children.
+// What a request does to its node, and no more: nothing; the owner becomes a team; the progress becomes a position, or the mark of one; the
+// node gets a pair of children, or its own result; or its joined one, which is made where it is stored.
 pub enum Change {
     Keep,
     Own(u32),
     Advance(u32),
     Mark(u32),
     Split(u32),
+    Report(Finds),
+    Push,
 }
 
 pub struct Outcome {
@@ -127,6 +143,17 @@ impl Node {
     pub const STOLEN: u32 = 4;
 
     pub const EXPANDED: u32 = 5;
+    // The stages of a node's report: none, prepared, pushed.
+    pub const UNREPORTED: u32 = 0;
+
+    pub const PREPARED: u32 = 1;
+
+    pub const PUSHED: u32 = 2;
+}
+
+impl Finds {
+    // The largest count of a report, and the largest label.
+    pub const MOST: u32 = 1000000;
 }
 
 impl Request {
@@ -141,13 +168,26 @@ impl Request {
 
     pub const LOOK: u32 = 5;
 
-    pub const LAST: u32 = Request::LOOK;
+    pub const REPORT: u32 = 6;
+
+    pub const PUSH: u32 = 7;
+
+    pub const LAST: u32 = Request::PUSH;
     // The largest amount of one advance.
     pub const AMOUNT: u32 = 4096;
 
     // The one maker of requests.
-    pub fn new(kind: i32, team: i32, node: i32, position: i32, amount: i32) -> Request
-        ensures { λ r. ⌜ r ≡ request kind team node position amount ⌝ }
+    pub fn new(
+        kind: i32,
+        team: i32,
+        node: i32,
+        position: i32,
+        amount: i32,
+        count: i32,
+        first: i32,
+        last: i32,
+    ) -> Request
+        ensures { λ r. ⌜ r ≡ request kind team node position amount count first last ⌝ }
     {
         Request {
             kind: kind,
@@ -155,6 +195,9 @@ impl Request {
             node: node,
             position: position,
             amount: amount,
+            count: count,
+            first: first,
+            last: last,
         }
     }
 }

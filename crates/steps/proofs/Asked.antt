@@ -89,7 +89,7 @@ module _ (l : Ledger) (w : WF l) (t n : ℕ) (tl : 1 ≤ t) (th : t ≤ l .teams
             was =
                 record {
                   going = f .going;
-                  plain = ap negative (w .alone n (in-use l q a) .unowned (f .nobody));
+                  plain = ap negative (w .node n (in-use l q a) .alone .unowned (f .nobody));
                   nobody = f .nobody;
                 };
           })

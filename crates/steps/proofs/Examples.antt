@@ -4,13 +4,14 @@ use mathlib.Core.Path.{_≡_, refl}
 use mathlib.Core.List.{List, [], _∷_}
 use lib.IntN.{ℤ, pos}
 use Rattle.rules.specs.declared.Opening.{Opening}
+use Rattle.rules.specs.Joining.{sameFinds}
 use Rattle.rules.specs.Limits.{opens}
 use Rattle.rules.specs.Opening.{opened}
 use Rattle.rules.specs.Refusals.{ownCode, advanceCode, kindCode, refusal}
 use Rattle.rules.specs.Requests.{owning, batchEnd, advancing, looking, granted, decided, view, changed, answered, requested}
 use Rattle.rules.specs.States.{stateOf, stolenOf}
 use Rattle.rules.specs.Table.{at, put, nextPair, grown, sumBy, stolenIn}
-use Rattle.rules.specs.WellFormed.{upTo, aloneRule, childRule, nodeRule, leftIs, pairRule, unusedRule, wellFormed}
+use Rattle.rules.specs.WellFormed.{upTo, aloneRule, childRule, nodeRule, leftIs, pairRule, unusedRule, stageRule, wellFormed}
 use Rattle.steps.specs.Records.{freshTeam}
 use Rattle.steps.specs.Places.{searchOf, seekMoves, markMoves, takeMoves, workMoves, claimMoves, splitMoves}
 use Rattle.steps.specs.Examples.{RightRequests, RightMoves, RightOrder, RightLimits}
@@ -39,9 +40,9 @@ abbrev seven : List ℤ
 seven = pos 1 ∷ pos 1 ∷ pos 1 ∷ pos 1 ∷ pos 1 ∷ pos 1 ∷ pos 1 ∷ []
 
 ends : stoppedTeams (runTeams (pos 1) (begun small (freshTeam ∷ [])) seven) ≡ 1
-unfolding runSteps stepTeam lentStep recordsAfter lentCode stepUnless stepFrom searchOf requested answered changed view decided granted looking owning advancing batchEnd refusal kindCode ownCode advanceCode stateOf stolenOf at put nextPair grown sumBy stolenIn upTo aloneRule childRule nodeRule leftIs pairRule unusedRule wellFormed opens opened seekMoves takeMoves workMoves claimMoves stoppedTo
+unfolding runSteps stepTeam lentStep recordsAfter lentCode stepUnless stepFrom searchOf requested answered changed view decided granted looking owning advancing batchEnd refusal kindCode ownCode advanceCode stateOf stolenOf at put nextPair grown sumBy stolenIn upTo aloneRule childRule nodeRule leftIs pairRule unusedRule stageRule sameFinds wellFormed opens opened seekMoves takeMoves workMoves claimMoves stoppedTo
 ends = refl
 
 too-few : lentCode (begun small [] .ledger) (pos 1) (pos 1) [] ≡ 18
-unfolding lentCode stateOf stolenOf at sumBy stolenIn upTo aloneRule childRule nodeRule leftIs pairRule unusedRule wellFormed opens opened
+unfolding lentCode stateOf stolenOf at sumBy stolenIn upTo aloneRule childRule nodeRule leftIs pairRule unusedRule stageRule sameFinds wellFormed opens opened
 too-few = refl

@@ -57,6 +57,8 @@ used-grows l q w = rw (requested-wf l q w) (go (nodeIn q) (decided (view l (node
     go n (change.Advance p) = unfold changed put in (omega arith)
     go n (change.Mark p) = unfold changed put in (omega arith)
     go n (change.Split c) = unfold changed put grown in (omega arith)
+    go n (change.Report f) = unfold changed put in (omega arith)
+    go n change.Push = unfold changed put in (omega arith)
 
 module _ (cap : ℕ) (l : Ledger) (w : WF l) (t : ℕ) (tl : 1 ≤ t) (th : t ≤ l .teams) (r : Team) (f : Fit cap (l .used) r) (some : 1 ≤ cap) where
   abbrev n : ℕ

@@ -83,13 +83,13 @@ nobody n x d s e (takes a b) = never (cc)
 module _ (l : Ledger) (w : WF l) (S : ℕ → Stage) (all : All l S) (rest : (t : ℕ) → t ≤ l .teams → S t ≡ ended)
     (root : stateOf (at l 1) ≢ AVAILABLE) where
   shut : (n : ℕ) → InUse l n → (d : Side) → Open l n d → ⊥
-  shut n u Left o = nobody n (at l n) Left _ (rest (at l n .owner) (w .alone n u .owner)) (all .tended n u .left o)
+  shut n u Left o = nobody n (at l n) Left _ (rest (at l n .owner) (w .node n u .alone .owner)) (all .tended n u .left o)
   shut n u Right o = let h = all .tended n u .right o in nobody n (at l n) Right _ (rest (h .team) (h .high)) (h .heads)
 
   -- no child is AVAILABLE
   no-child : (m : ℕ) → InUse l m → 0 < at l m .left → (d : Side) → stateOf (at l (child (at l m) d)) ≢ AVAILABLE
   no-child m u h d e =
-      shut m u d (untaken (expanded-is (at l m) (record { mark = w .pair m u h .mark; parent = h })) e)
+      shut m u d (untaken (expanded-is (at l m) (record { mark = w .node m u .pair h .mark; parent = h })) e)
 
   -- nor is any node
   taken : (n : ℕ) → InUse l n → stateOf (at l n) ≢ AVAILABLE
@@ -108,7 +108,7 @@ module _ (l : Ledger) (w : WF l) (S : ℕ → Stage) (all : All l S) (rest : (t 
       go : {k : ℕ} → stateOf (at l n) ≡ k → State (at l n) k → at l n .left ≡ 0 → leftOver (at l n) ≡ 0
       go e (available a) z = absurd (taken n u e)
       go e (owning a) z =
-          absurd (let f = all .tended n u .mine e in let g = rest (at l n .owner) (w .alone n u .owner) in never (cc))
+          absurd (let f = all .tended n u .mine e in let g = rest (at l n .owner) (w .node n u .alone .owner) in never (cc))
       go e (done a) z = omega (arith, claimed (at l n) a)
       go e (stolen a) z = absurd (shut n u Left (unmade e))
       go e (expanded a) z = absurd (omega (arith, a .parent))

@@ -91,6 +91,8 @@ teams-kept l q w = rw (requested-wf l q w) (go (nodeIn q) (decided (view l (node
     go n (change.Advance p) = unfold changed put in refl
     go n (change.Mark p) = unfold changed put in refl
     go n (change.Split c) = unfold changed put grown in refl
+    go n (change.Report f) = unfold changed put in refl
+    go n change.Push = unfold changed put in refl
 
 module _ (cap t : ℕ) (l : Ledger) (r : Team) where
   -- a step makes one request or none, so what each request keeps every step keeps

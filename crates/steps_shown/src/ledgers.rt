@@ -16,7 +16,7 @@ pub(crate) fn opened(nodes: i32) -> Ledger {
 
 fn after(l: Ledger, kind: u32, team: i32, node: i32, position: i32, amount: i32) -> Ledger {
     let k = numbers::to_signed(kind);
-    let r = Request::new(k, team, node, position, amount);
+    let r = Request::new(k, team, node, position, amount, 0, 0, 0);
     let x = ledger::request(l, r);
     x.ledger
 }

@@ -19,17 +19,17 @@ use Rattle.rules.specs.declared.View.{View}
 use Rattle.rules.specs.declared.Outcome.{Outcome}
 use Rattle.rules.specs.declared.Change.{Change}
 use Rattle.rules.specs.declared.Change.the-variants.{Keep}
-use Rattle.rules.specs.Asks.{OWN, ADVANCE, MARK, EXPAND}
 use Rattle.rules.specs.Limits.{maxTeams, maxCap}
-use Rattle.rules.specs.Refusals.{allTests, ownTests, advanceTests, markTests, expandTests, ownCode, advanceCode, markCode, expandCode, kindCode, refusal}
-use Rattle.rules.specs.Requests.{refused, refusing, outcome, owning, advancing, marking, expanding, looking, granted, decided, view, nodeIn, answered, requested}
+use Rattle.rules.specs.Refusals.{allTests, ownTests, advanceTests, markTests, expandTests, reportTests, pushTests, ownCode, advanceCode, markCode, expandCode, reportCode, pushCode, kindCode, refusal}
+use Rattle.rules.specs.Requests.{refused, refusing, outcome, owning, advancing, marking, expanding, looking, reporting, pushing, granted, decided, view, nodeIn, answered, requested}
 use Rattle.rules.specs.Table.{at}
 use Rattle.rules.specs.Tests.{Test, first}
 use Rattle.rules.specs.WellFormed.{wellFormed, Sized}
+use Rattle.rules.proofs.Granted.{each-granted}
 use Rattle.rules.proofs.Keeps.{requested-wf}
 use Rattle.rules.proofs.Record.{WF, rules, both-sound, used-high}
 use Rattle.rules.proofs.Spare.{spare}
-use Rattle.rules.proofs.Tests.{lacks, passed-to, passed}
+use Rattle.rules.proofs.Tests.{lacks, passed-to, passed, each-kind}
 use Rattle.steps.specs.declared.Team.{Team}
 use Rattle.steps.specs.declared.Stepped.{Stepped}
 use Rattle.steps.specs.Records.{maxNode, isStopped}
@@ -46,17 +46,19 @@ pub left-small : (v : View) (q : Request) (k : ℕ) → v .node .left ≤ k → 
 unfolding decided
 left-small v q k node pair = refused-or (eqb (refusal v q) 0)
   where
-    of-kind : (a b c d : Bool)
-        → cond a (owning v q) (cond b (advancing v q) (cond c (marking v q) (cond d (expanding v) (looking v)))) .answer .left ≤ k
-    of-kind true b c d = unfold owning in (omega arith)
-    of-kind false true c d = unfold advancing in (omega arith)
-    of-kind false false true d = unfold marking in (omega arith)
-    of-kind false false false true = unfold expanding in pair
-    of-kind false false false false = unfold looking in node
-
     refused-or : (b : Bool) → cond b (granted v q) (outcome (refusing v (refusal v q)) Keep) .answer .left ≤ k
     refused-or true =
-        unfold granted in (of-kind (eqb (natOf (q .kind)) OWN) (eqb (natOf (q .kind)) ADVANCE) (eqb (natOf (q .kind)) MARK) (eqb (natOf (q .kind)) EXPAND))
+        unfold owning advancing marking expanding looking reporting pushing in (each-granted
+        (λ (o : Outcome). o .answer .left ≤ k)
+        v
+        q
+        (omega arith)
+        (omega arith)
+        (omega arith)
+        pair
+        node
+        (omega arith)
+        (omega arith))
     refused-or false = late (eqb (refusal v q) 16)
       where
         late : (b : Bool) → cond b (v .node .left) 0 ≤ k
@@ -69,7 +71,7 @@ module _ (l : Ledger) (w : WF l) where
     where
       go : Dec (n ≤ l .used) → Dec (0 < at l n .left) → at l n .left ≤ maxNode
       go (no h) d = rw (w .blank n (omega arith)) (omega arith)
-      go (yes h) (yes k) = omega (arith, w .pair n (record { low = low; high = h }) k .inside, used-high l w)
+      go (yes h) (yes k) = omega (arith, w .node n (record { low = low; high = h }) .pair k .inside, used-high l w)
       go (yes h) (no k) = omega arith
 
   any-child-small : (n : ℕ) → at l n .left ≤ maxNode
@@ -102,39 +104,47 @@ module _ (l : Ledger) (w : WF l) where
 -- ---- 1 is the code of no refusal but that of a ledger that is not well formed
 
 never-one : (v : View) (q : Request) → refusal v q ≢ 1
-unfolding refusal kindCode ownCode advanceCode markCode expandCode
-never-one v q e = of-kind (is OWN) (is ADVANCE) (is MARK) (is EXPAND) (passed-to 1 (allTests v q) (kindCode v q) tt e .1)
+unfolding refusal kindCode ownCode advanceCode markCode expandCode reportCode pushCode
+never-one v q e =
+    each-kind
+    (λ (c : ℕ). c ≢ 1)
+    (natOf (q .kind))
+    (ownCode (v .node))
+    (advanceCode (v .node) q)
+    (markCode v q)
+    (expandCode (v .node))
+    0
+    (reportCode (v .node) q)
+    (pushCode v)
+    (nothing (ownTests (v .node)) tt)
+    (nothing (advanceTests (v .node) q) tt)
+    (nothing (markTests v q) tt)
+    (nothing (expandTests (v .node)) tt)
+    (λ z. omega arith)
+    (nothing (reportTests (v .node) q) tt)
+    (nothing (pushTests v) tt)
+    (passed-to 1 (allTests v q) (kindCode v q) tt e .1)
   where
-    is : ℕ → Bool
-    is kind = eqb (natOf (q .kind)) kind
-
-    nothing : (ts : List Test) → T (lacks 1 ts) → first ts 0 ≡ 1 → ⊥
+    nothing : (ts : List Test) → T (lacks 1 ts) → first ts 0 ≢ 1
     nothing ts p e = let z = passed-to 1 ts 0 p e .1 in omega arith
-
-    of-kind : (a b c d : Bool)
-        → cond a (ownCode (v .node)) (cond b (advanceCode (v .node) q) (cond c (markCode v q) (cond d (expandCode (v .node)) 0))) ≡ 1
-        → ⊥
-    of-kind true b c d = nothing (ownTests (v .node)) tt
-    of-kind false true c d = nothing (advanceTests (v .node) q) tt
-    of-kind false false true d = nothing (markTests v q) tt
-    of-kind false false false true = nothing (expandTests (v .node)) tt
-    of-kind false false false false = λ e. omega arith
 
 not-one : (v : View) (q : Request) → decided v q .answer .code ≢ 1
 unfolding decided
 not-one v q = refused-or (eqb (refusal v q) 0)
   where
-    of-kind : (a b c d : Bool)
-        → cond a (owning v q) (cond b (advancing v q) (cond c (marking v q) (cond d (expanding v) (looking v)))) .answer .code ≢ 1
-    of-kind true b c d = unfold owning in (omega arith)
-    of-kind false true c d = unfold advancing in (omega arith)
-    of-kind false false true d = unfold marking in (omega arith)
-    of-kind false false false true = unfold expanding in (omega arith)
-    of-kind false false false false = unfold looking in (omega arith)
-
     refused-or : (b : Bool) → cond b (granted v q) (outcome (refusing v (refusal v q)) Keep) .answer .code ≢ 1
     refused-or true =
-        unfold granted in (of-kind (eqb (natOf (q .kind)) OWN) (eqb (natOf (q .kind)) ADVANCE) (eqb (natOf (q .kind)) MARK) (eqb (natOf (q .kind)) EXPAND))
+        unfold owning advancing marking expanding looking reporting pushing in (each-granted
+        (λ (o : Outcome). o .answer .code ≢ 1)
+        v
+        q
+        (omega arith)
+        (omega arith)
+        (omega arith)
+        (omega arith)
+        (omega arith)
+        (omega arith)
+        (omega arith))
     refused-or false = never-one v q
 
 -- ---- what was heard

@@ -3,11 +3,12 @@ use borrow.Author.Needs.{needs}
 use native.Mathlib.Omega.{arith}
 use mathlib.Core.Path.{_≡_, ap₂, _∙_}
 use mathlib.Core.Bool.{_&&_}
-use Prim.Native.Nat.{_-_, _≤_}
-use lib.ListN.{getD}
+use Prim.Native.Nat.{ℕ, _+_, _-_, _≤_, _<_}
+use lib.ListN.{length, take, getD}
+use Rattle.rules.specs.Limits.{maxNodes}
 use Rattle.rules.specs.Nodes.{blank}
 use Rattle.rules.specs.Table.{at}
-use Rattle.rules.specs.WellFormed.{upTo, nodeRule}
+use Rattle.rules.specs.WellFormed.{upTo, aloneRule, nodeRule}
 use Rattle.rules.proofs.Nodes.{at-next}
 use Rattle.forms.proofs.Laws.{upTo-none, upTo-more, child-slots}
 use Rattle.forms.proofs.nodes_ok.Statement.{statement}
@@ -58,6 +59,9 @@ add-child-ok c = search needs
 child-ok-requires : tie.Need-child-ok-requires Inv-loop μ-loop
 child-ok-requires c κs = search needs
 
+stage-ok-requires : tie.Need-stage-ok-requires Inv-loop μ-loop
+stage-ok-requires c κs = search needs
+
 add-i : tie.Need-add-i Inv-loop μ-loop
 add-i c = search needs
 
@@ -66,7 +70,26 @@ loop-less c = search needs
 
 loop-again : tie.Need-loop-again Inv-loop μ-loop
 unfolding nodeRule
-loop-again c = let l = c .before .before .before .before .before .before .before .before .args .t1 in let i = c .before .before .before .before .before .before .before .loop .i in (search needs, upTo-more _ _ (c .before .before .before .before .before .before .before .loop .inv .1) (rw (at-next l i) (ap₂ _&&_ (c .before .alone-ok .ensures) (c .child-ok .ensures ∙ child-slots _ _ _ (λ j. getD (l .nodes) j blank) (at l) (c .before .before .before .before .pair-slot .result) (search needs) (at-next l) (c .before .before .before .before .pair-slot .ensures .0) (c .before .before .before .before .pair-slot .ensures .2)))))
+loop-again c =
+    let l = c .before .before .before .before .before .before .before .before .before .args .t1 in
+    let loop = c .before .before .before .before .before .before .before .before .loop in
+    let pair = c .before .before .before .before .before .pair-slot in
+    let tests = ap₂ _&&_ (ap₂ _&&_ (c .before .before .alone-ok .ensures) (c .before .child-ok .ensures)) (c .stage-ok .ensures) in
+    let small : l .used ≤ maxNodes = search needs in
+    let slots =
+    child-slots
+    (aloneRule (l .teams) (getD (l .nodes) (loop .i) blank))
+    (loop .i + 1)
+    (l .used)
+    (getD (l .nodes) (loop .i) blank)
+    (λ j. getD (l .nodes) j blank)
+    (at l)
+    (pair .result)
+    small
+    (at-next l)
+    (pair .ensures .0)
+    (pair .ensures .2) in
+    (search needs, upTo-more _ _ (loop .inv .1) (rw (at-next l (loop .i)) (tests ∙ slots)))
 
 returns : tie.Need-returns Inv-loop μ-loop
 returns c = let e : c .before .loop .i ≡ c .before .before .args .t1 .used = omega arith in cc
@@ -90,6 +113,7 @@ nodes-ok-spec =
     alone-ok-requires
     add-child-ok
     child-ok-requires
+    stage-ok-requires
     add-i
     loop-less
     loop-again

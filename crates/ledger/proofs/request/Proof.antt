@@ -23,7 +23,7 @@ slots c = search (needs, length-under)
 formed : (c : tie.After-decide) → wellFormed (c .before .before .before .before .before .before .args .l) ≡ true
 formed c = sym (c .before .before .before .before .before .well-formed .ensures) ∙ c .before .before .before .before .if1 .taken
 
-stores : (c : tie.After-decide) → Stores (c .before .before .natural .result) (at (c .before .before .before .before .before .before .args .l) (c .before .before .natural .result)) (c .decide .result .change)
+stores : (c : tie.After-decide) → Stores (c .before .before .before .before .before .before .args .l) (c .before .before .natural .result) (c .decide .result .change)
 stores c =
     let s = c .before .before .before .before .before .before in
     let number = natural-held (s .args .r .node) _ (c .before .before .before .struct-told .given .1 .1 .0 .1) (c .before .before .natural .ensures) in

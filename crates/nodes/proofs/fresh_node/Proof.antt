@@ -6,4 +6,6 @@ use Rattle.nodes.proofs.fresh_node.Tie as tie
 pub fresh-node-spec : {M : Type 1} → statement M
 fresh-node-spec = tie.close (tie.spec
     (λ c κs. tt)
-    (λ c. cc (told (c .to-signed .result) (c .to-signed .ok))))
+    (λ c κs. tt)
+    (λ c κs. tt)
+    (λ c. cc (told (c .before .before .to-signed .result) (c .before .before .to-signed .ok))))

@@ -1,4 +1,4 @@
--- Kinds are 1 to 5.
+-- Kinds are 1 to the last.
 use Rattle.numbers.proofs.Signed.{told}
 use Rattle.refusals.proofs.good_kind.Statement.{statement}
 use Rattle.refusals.proofs.good_kind.Tie as tie

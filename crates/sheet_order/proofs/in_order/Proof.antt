@@ -2,7 +2,7 @@
 use borrow.Author.Needs.{needs}
 use mathlib.Core.Path.{_≡_}
 use mathlib.Core.Bool.{true, false}
-use lib.ListN.{length}
+use Rattle.rules.specs.WellFormed.{Sized}
 use Rattle.forms.proofs.Laws.{length-under}
 use Rattle.sheet_order.specs.Order.{small, inOrder}
 use Rattle.sheet_order.proofs.Demands.{reads-listing, small-answer, large-answer, root-readable}
@@ -19,7 +19,7 @@ with-node-requires : tie.Need-with-node-requires
 unfolding small
 with-node-requires c κs =
     let a = c .before .before .before .before .before .args in
-    let slots : length (a .l .nodes) ≡ 1023 = search (needs, length-under) in
+    let slots : Sized (a .l) = search (needs, length-under) in
     let e : small (a .l) (a .granted) ≡ true = cc in
     root-readable (a .l) (a .granted) slots e
 

@@ -2,7 +2,6 @@
 use borrow.Author.Needs.{needs}
 use Rattle.rules.specs.Requests.{view}
 use Rattle.rules.specs.Table.{nextPair}
-use Rattle.rules.proofs.Nodes.{at-next}
 use Rattle.ledger.proofs.table.view_of.Statement.{statement}
 use Rattle.ledger.proofs.table.view_of.Tie as tie
 
@@ -13,8 +12,7 @@ view-of-spec =
     (tie.spec
     (λ c κs. tt)
     (λ c κs. tt)
-    (λ c. search needs)
     (λ c κs. tt)
     (λ c κs. tt)
     (λ c. search needs)
-    (λ c. cc (at-next _ _)))
+    (λ c. cc))

@@ -11,6 +11,7 @@ use mir.Syntax.{w32}
 use mir.Val.{toZ, ofZ}
 use Rattle.numbers.specs.Fields.{natOf, within}
 use Rattle.numbers.proofs.Signed.{held}
+use Rattle.rules.specs.Limits.{maxTeams, maxNodes}
 use Rattle.rules.specs.Table.{nextPair, stolenIn}
 use Rattle.steps.specs.Step.{slotOf}
 use Rattle.rules.proofs.Record.{rules-back}
@@ -115,7 +116,7 @@ Seated-here = tie.After-team-slot Inv-loop μ-loop
 slot-is : (c : Seated-here) → c .team-slot .result ≡ slotOf (number (c .before))
 slot-is c = rw (back (c .before)) at (c .team-slot .ensures)
 
-seat : (c : Seated-here) → c .team-slot .result < 32
+seat : (c : Seated-here) → c .team-slot .result < maxTeams
 seat c =
     let n = c .before in
     rw (slot-is c) (seat-inside (begun (looped n)) (schedule n) (looped n .loop .i) (less n) (looped n .loop .book) (looped n .loop .teams) (looped n .loop .inv .3) (mine n))
@@ -145,10 +146,10 @@ name c = c .before .natural2 .result
 named : (c : Turned-here) → name c ≡ natOf (number (read c))
 named c = rw (back (read c)) at (c .before .natural2 .ensures)
 
-place-inside : (c : Turned-here) → placed c .slot-for .result < 1023
+place-inside : (c : Turned-here) → placed c .slot-for .result < maxNodes
 place-inside c = omega (arith, placed c .slot-for .ensures)
 
-few : (c : Turned-here) → at c .loop .stolen ≤ 1023
+few : (c : Turned-here) → at c .loop .stolen ≤ maxNodes
 few c = let w = stands (at c) .wf in omega (arith, at c .loop .inv .2, w .loaded, w .limits .room-high)
 
 turns : (c : Turned-here)
@@ -225,7 +226,7 @@ Split-here = tie.After-known-told4 Inv-loop μ-loop
 abbrev from-split : Split-here → Moved-here
 from-split c = c .before .before .before
 
-pair-of : (c : Split-here) → let p = c .before .change4 .given .0 .0 in (1 ≤ p) × (p + 1 ≤ 1023)
+pair-of : (c : Split-here) → let p = c .before .change4 .given .0 .0 in (1 ≤ p) × (p + 1 ≤ maxNodes)
 pair-of c = stores (called (from-split c)) .pair _ (c .before .change4 .given .1)
 
 natural-requires : tie.Need-natural-requires Inv-loop μ-loop
@@ -313,7 +314,7 @@ node-for-requires : tie.Need-node-for-requires Inv-loop μ-loop
 node-for-requires c κs = search needs
 
 add-view-by : tie.Need-add-view-by Inv-loop μ-loop
-add-view-by c = let w = stands (looped (c .before .before .before .before .before .before .before)) .wf in omega (arith, w .used-room, w .limits .room-high)
+add-view-by c = let w = stands (looped (c .before .before .before .before .before .before .before)) .wf in omega (arith, w .loaded, w .limits .room-high)
 
 view-by-requires : tie.Need-view-by-requires Inv-loop μ-loop
 view-by-requires c κs = search needs
@@ -444,6 +445,26 @@ loop-less-6 c = omega (arith, more (read (called (from-split (c .before .before 
 loop-again-6 : tie.Need-loop-again-6 Inv-loop μ-loop
 loop-again-6 c = let k = c .before .before .before .before in let m = from-split k in let p = writes m in let f = stores (called m) .split _ (k .before .change4 .given .1) in (p .0, p .1, rw (c .before .before .before .less-by .ensures, c .before .before .left-part .ensures, c .before .right-part .ensures) (f .count), rw (c .before .before .left-part .ensures, c .before .right-part .ensures) (f .run), p .2)
 
+-- no step reports or pushes
+
+enum-told-2 : tie.Need-enum-told-2 Inv-loop μ-loop
+enum-told-2 c = search needs
+
+loop-less-7 : tie.Need-loop-less-7 Inv-loop μ-loop
+loop-less-7 c = omega (arith, more (read (called (c .before .before))))
+
+loop-again-7 : tie.Need-loop-again-7 Inv-loop μ-loop
+loop-again-7 c = let none = stores (called (c .before .before)) .moving in absurd (rw (c .enum-told2 .given .1) at none)
+
+enum-told-3 : tie.Need-enum-told-3 Inv-loop μ-loop
+enum-told-3 c = search needs
+
+loop-less-8 : tie.Need-loop-less-8 Inv-loop μ-loop
+loop-less-8 c = omega (arith, more (read (called (c .before .before))))
+
+loop-again-8 : tie.Need-loop-again-8 Inv-loop μ-loop
+loop-again-8 c = let none = stores (called (c .before .before)) .moving in absurd (rw (c .enum-told3 .given .1) at none)
+
 -- after the last step
 finished : (a : tie.At-loop Inv-loop μ-loop) → a .loop .i ≡ started (ready (a .before)) .args .count
     → let s = started (ready (a .before)) in
@@ -544,6 +565,12 @@ run-spec =
     add-book
     loop-less-6
     loop-again-6
+    enum-told-2
+    loop-less-7
+    loop-again-7
+    enum-told-3
+    loop-less-8
+    loop-again-8
     last-requires
     same-length
     returns)

@@ -1,0 +1,2 @@
+-- What the code on results needs of the definitions.
+pub mod Held

@@ -1,0 +1,2 @@
+-- What the code on results needs beside the rules.
+pub mod Held
