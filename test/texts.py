@@ -38,12 +38,17 @@ def a_range(g):
     return start, min(start + size, NUMBER_LIMIT)
 
 
+def a_program(g):
+    """The sixth number of a header, which names the program, or none."""
+    return g.choice([[], [], [1], [2], [2]])
+
+
 def a_header(g):
     start, until = a_range(g)
     teams = g.choice([1, 2, 2, 3, 4, 5, 8, 12, 31, TEAMS_LIMIT])
     cap = g.choice([1, 1, 2, 3, 5, 16, 100, CAP_LIMIT - 1, CAP_LIMIT])
     nodes = g.choice([1, 2, 3, 4, 5, 6, 7, 8, 9, 15, 31, 100, 1022, NODES_LIMIT])
-    return [start, until, teams, cap, nodes]
+    return [start, until, teams, cap, nodes] + a_program(g)
 
 
 def a_stealing_header(g):
@@ -52,7 +57,7 @@ def a_stealing_header(g):
     size = g.choice([6, 20, 64, 500, 10**6, NUMBER_LIMIT - 1000])
     teams = g.choice([2, 3, 4, 6, 8, 16, TEAMS_LIMIT])
     nodes = g.choice([3, 5, 6, 7, 9, 15, 63, NODES_LIMIT])
-    return [start, start + size, teams, g.choice([1, 2, 4, 8, 64, CAP_LIMIT]), nodes]
+    return [start, start + size, teams, g.choice([1, 2, 4, 8, 64, CAP_LIMIT]), nodes] + a_program(g)
 
 
 # ---- Schedules, each a list of team numbers
@@ -171,14 +176,14 @@ def good_stealing(g):
 
 def good_crowded(g):
     """A few sheets and many teams, so that most marks come late or find no room."""
-    header = [0, g.randint(2, 12), g.choice([3, 8, 20]), g.choice([1, 2, 4]), g.randint(3, 11)]
+    header = [0, g.randint(2, 12), g.choice([3, 8, 20]), g.choice([1, 2, 4]), g.randint(3, 11)] + a_program(g)
     return plain(header, a_schedule(g, header[2], 400))
 
 
 def good_top(g):
     """Sheets up to the greatest number, where a sum of 32 bits would wrap."""
     size = g.choice([1, 2, 3, 9, 30, 5000, NUMBER_LIMIT])
-    header = [NUMBER_LIMIT - size, NUMBER_LIMIT, g.randint(1, 4), g.choice([2, 3, 16, CAP_LIMIT]), g.randint(1, 9)]
+    header = [NUMBER_LIMIT - size, NUMBER_LIMIT, g.randint(1, 4), g.choice([2, 3, 16, CAP_LIMIT]), g.randint(1, 9)] + a_program(g)
     return plain(header, a_schedule(g, header[2], 200))
 
 
@@ -203,7 +208,8 @@ def good_padded(g):
     """Every number with leading zeros, most of them up to the ten digits that one may have."""
     header = g.choice([a_header, a_stealing_header])(g)
     numbers = [b'%0*d' % (g.choice([2, 9, 10, 10, 10]), n) for n in header + a_schedule(g, header[2])]
-    return b' '.join(numbers[:5]) + b'\n' + b' '.join(numbers[5:]) + b'\n'
+    head = len(header)
+    return b' '.join(numbers[:head]) + b'\n' + b' '.join(numbers[head:]) + b'\n'
 
 
 def good_windows(g):
@@ -218,7 +224,7 @@ def good_windows(g):
 def good_commented(g):
     """A comment on every line, short or of some thousand bytes, with numbers in it that do not count."""
     header = a_stealing_header(g)
-    text = joined(header) + b' # the five numbers\n'
+    text = joined(header) + b' # the five numbers, or six\n'
     for team in a_schedule(g, header[2], 120):
         text += b'%d' % team + a_comment(g) + g.choice([b'', b' 9' * g.choice([1, 40, 1500])]) + b'\n'
     return text[:g.choice([TEXT_LIMIT, 9000])]
@@ -226,7 +232,7 @@ def good_commented(g):
 
 def good_stopped(g):
     """Few sheets, and steps that go on long after every team has stopped."""
-    header = [0, g.randint(0, 9), g.choice([1, 2, 5, TEAMS_LIMIT]), g.choice([1, 4, CAP_LIMIT]), g.choice([1, 3, 7, 63])]
+    header = [0, g.randint(0, 9), g.choice([1, 2, 5, TEAMS_LIMIT]), g.choice([1, 4, CAP_LIMIT]), g.choice([1, 3, 7, 63])] + a_program(g)
     return plain(header, round_robin(g, header[2], g.choice([500, 3000, 20000])))[:TEXT_LIMIT - 2].rpartition(b' ')[0] + b'\n'
 
 
@@ -292,19 +298,21 @@ def odd_number(g):
 
 
 def header_count(g):
-    """A header of none to seven numbers, on the first line or after others."""
-    numbers = ([0, 5, 2, 4, 7, 1, 1])[:g.randint(0, 7)]
+    """A header of none to eight numbers, on the first line or after others."""
+    numbers = ([0, 5, 2, 4, 7, g.randint(0, 3), 1, 1])[:g.randint(0, 8)]
     before = b'# plan\n' * g.randint(0, 3)
     return before + joined(numbers) + g.choice([b'', b'\n', b'\n1 1 2\n', b'\n0 5 2 4 7\n1 2\n'])
 
 
 def header_limits(g):
     """Each header number on its limits and one beyond them."""
-    header = [3, 90, 2, 4, 7]
+    header = [3, 90, 2, 4, 7, 2]
     at, value = g.next_of([(0, 90), (0, 91), (1, 3), (1, 2), (1, NUMBER_LIMIT), (2, 0), (2, 1), (2, 32),
                            (2, 33), (3, 0), (3, 1), (3, 4096), (3, 4097), (4, 0), (4, 1), (4, 1023),
-                           (4, 1024)])
+                           (4, 1024), (5, 0), (5, 1), (5, 2), (5, 3), (5, NUMBER_LIMIT)])
     header[at] = value
+    if at < 5 and g.random() < 0.5:
+        header.pop()
     return b'\n' * g.randint(0, 2) + plain(header, [1, 1, 1, 1] if g.random() < 0.8 else [1, 2])
 
 

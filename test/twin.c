@@ -25,7 +25,9 @@ enum {
     TEXT_LIMIT = 65535,
     /* Two numbers have a byte between them, so a text holds no more of them. */
     NUMBERS_LIMIT = (TEXT_LIMIT + 1) / 2,
-    HEADER_NUMBERS = 5,
+    HEADER_LEAST = 5,
+    /* A sixth number names the program. */
+    HEADER_MOST = 6,
     DIGITS_LIMIT = 10,
     NUMBER_LIMIT = 2147483647,
     TEAMS_LIMIT = 32,
@@ -33,7 +35,7 @@ enum {
     AMOUNT_LIMIT = 4096,
     NODES_LIMIT = 1023,
     /* The open line is the longest, and no step prints more than one line. */
-    LINE_LIMIT = 40,
+    LINE_LIMIT = 42,
     OUTPUT_LIMIT = (NUMBERS_LIMIT + 2) * LINE_LIMIT
 };
 
@@ -66,6 +68,10 @@ enum place { SEEK, TAKE, WORK, CLAIM, MARK, SPLIT, STOPPED };
 
 enum side { LEFT, RIGHT };
 
+/* How every team looks for work.  A header of five numbers names none, which
+ * means the scan. */
+enum { PROGRAM_NOT_GIVEN = 0, SCAN = 1, GREATEST = 2 };
+
 struct fault {
     int code;
     int line;
@@ -73,6 +79,7 @@ struct fault {
 
 struct header {
     int start, until, teams, cap, nodes;
+    int program;
 };
 
 struct node {
@@ -87,6 +94,9 @@ struct record {
     enum place place;
     enum side side;
     int node, position, size;
+    /* What a search for the greatest rest has found so far: the node, 0 for
+     * none, its rest, whether nobody owned it, and the position read there. */
+    int best, best_rest, best_free, best_position;
 };
 
 static unsigned char text[TEXT_LIMIT + 1];
@@ -106,6 +116,7 @@ static int stolen;
 
 static struct record records[TEAMS_LIMIT + 1];
 static struct header run;
+static int header_count;
 
 static char output[OUTPUT_LIMIT];
 static int output_length;
@@ -169,6 +180,8 @@ static void put_open_line(void)
     put_number(run.teams);
     put_number(run.cap);
     put_number(run.nodes);
+    if (run.program != PROGRAM_NOT_GIVEN)
+        put_number(run.program);
     put_byte('\n');
 }
 
@@ -296,17 +309,24 @@ static struct fault judge_header(void)
         return (struct fault){HEADER_BAD, 0};
     while (count < numbers_count && lines[count] == lines[0])
         count++;
-    if (count != HEADER_NUMBERS)
+    if (count < HEADER_LEAST || count > HEADER_MOST)
         return (struct fault){HEADER_BAD, lines[0]};
-    run = (struct header){numbers[0], numbers[1], numbers[2], numbers[3], numbers[4]};
+    header_count = count;
+    run = (struct header){numbers[0], numbers[1], numbers[2], numbers[3], numbers[4],
+                          PROGRAM_NOT_GIVEN};
     if (!limits_hold(run))
+        return (struct fault){OPENING_BAD, lines[0]};
+    if (count == HEADER_LEAST)
+        return (struct fault){0, 0};
+    run.program = numbers[5];
+    if (run.program != SCAN && run.program != GREATEST)
         return (struct fault){OPENING_BAD, lines[0]};
     return (struct fault){0, 0};
 }
 
 static struct fault judge_schedule(void)
 {
-    for (int i = HEADER_NUMBERS; i < numbers_count; i++)
+    for (int i = header_count; i < numbers_count; i++)
         if (numbers[i] < 1 || numbers[i] > run.teams)
             return (struct fault){TEAM_BAD, lines[i]};
     return (struct fault){0, 0};
@@ -497,7 +517,50 @@ static void take_child(struct record *record, int left)
     go(record, TAKE, record->side == LEFT ? left : left + 1);
 }
 
-static void step_seek(int team, struct record *record)
+/* Every return to node 1 begins a new search, which has found nothing. */
+static void seek_anew(struct record *record)
+{
+    go(record, SEEK, 1);
+    record->best = 0;
+    record->best_rest = 0;
+}
+
+static void keep_if_greater(int team, struct record *record, struct answer seen)
+{
+    int rest = seen.to - seen.from;
+    int is_free = seen.state == AVAILABLE;
+
+    if (!is_free && !(seen.state == OWNED && seen.owner != team))
+        return;
+    /* On equal rests the lower number stays, which was met first. */
+    if (rest <= record->best_rest)
+        return;
+    record->best = record->node;
+    record->best_rest = rest;
+    record->best_free = is_free;
+    record->best_position = seen.from;
+}
+
+static void seek_greatest(int team, struct record *record)
+{
+    struct answer seen = look(record->node);
+
+    if (seen.code == NODE_UNKNOWN) {
+        if (record->best == 0)
+            record->place = STOPPED;
+        else if (record->best_free)
+            go(record, TAKE, record->best);
+        else
+            go_at(record, MARK, record->best, record->best_position);
+    } else if (seen.state == STOLEN) {
+        go_beside(record, SPLIT, record->node, RIGHT);
+    } else {
+        keep_if_greater(team, record, seen);
+        go(record, SEEK, record->node + 1);
+    }
+}
+
+static void seek_by_number(int team, struct record *record)
 {
     int node = record->node;
     struct answer seen = look(node);
@@ -514,10 +577,18 @@ static void step_seek(int team, struct record *record)
         go(record, SEEK, node + 1);
 }
 
+static void step_seek(int team, struct record *record)
+{
+    if (run.program == GREATEST)
+        seek_greatest(team, record);
+    else
+        seek_by_number(team, record);
+}
+
 static void step_take(int team, struct record *record)
 {
     if (own(team, record->node).code != GRANTED) {
-        go(record, SEEK, 1);
+        seek_anew(record);
         return;
     }
     record->size = 1;
@@ -536,7 +607,7 @@ static void step_work(int team, struct record *record)
     else if (seen.state == EXPANDED)
         go(record, TAKE, seen.left);
     else
-        go(record, SEEK, 1);
+        seek_anew(record);
 }
 
 static void step_claim(int team, struct record *record)
@@ -562,6 +633,8 @@ static void step_mark(int team, struct record *record)
 
     if (code == GRANTED)
         go_beside(record, SPLIT, node, RIGHT);
+    else if (run.program == GREATEST)
+        seek_anew(record);
     else if (code == NO_ROOM_TO_STEAL)
         go(record, SEEK, node + 1);
     else
@@ -579,7 +652,7 @@ static void step_split(struct record *record)
     } else if (answer.code == HAS_CHILDREN) {
         take_child(record, answer.left);
     } else {
-        go(record, SEEK, 1);
+        seek_anew(record);
     }
 }
 
@@ -625,7 +698,7 @@ static void run_schedule(void)
 {
     open_ledger();
     put_open_line();
-    for (int i = HEADER_NUMBERS; i < numbers_count; i++)
+    for (int i = header_count; i < numbers_count; i++)
         step(numbers[i]);
     put_word("left");
     put_number(unclaimed_count());

@@ -9,9 +9,9 @@ use borrow.Author.Tests.{le-leb}
 use lib.ListN.{getD, length-append, List·getD-append}
 use Rattle.numbers.specs.Fields.{natOf}
 use Rattle.line_rules.specs.Decimal.{digit, spell, digits, decimal, readAfter, readDecimal}
-use Rattle.line_rules.specs.Line.{openLine, batchLine, splitLine, leftLine, refusedLine, Part, word, number, bytesOf, spaced, whole, space, lineEnd}
+use Rattle.line_rules.specs.Line.{openLine, openWithLine, batchLine, splitLine, leftLine, refusedLine, Part, word, number, bytesOf, spaced, whole, space, lineEnd}
 use Rattle.line_rules.specs.Plain.{isDigit, isPlain, all}
-use Rattle.line_rules.specs.Demands.{NoLeadingZero, DigitsAlone, ReadsBack, PlainLines, NoLineLonger, OneLineAsLong}
+use Rattle.line_rules.specs.Demands.{NoLeadingZero, DigitsAlone, ReadsBack, PlainLines, OpenLines, NoLineLonger, OneLineAsLong}
 use Rattle.line_rules.proofs.Decimal.{decimal-last, decimal-more, by-digits, decimal-some, decimal-width}
 
 -- ---- decimals
@@ -99,15 +99,21 @@ whole-plain w ps e f = all-append isPlain (w ++ spaced ps) (lineEnd ∷ []) (all
 
 pub plain-lines : PlainLines
 plain-lines (openLine start until teams cap nodes) = whole-plain _ _ refl refl
+plain-lines (openWithLine start until teams cap nodes program) = whole-plain _ _ refl refl
 plain-lines (batchLine team node from to) = whole-plain _ _ refl refl
 plain-lines (splitLine node left middle) = whole-plain _ _ refl refl
 plain-lines (leftLine count stopped) = whole-plain _ _ refl refl
 plain-lines (refusedLine code line) = whole-plain _ _ refl refl
 
+-- ---- the open line, and with its program
+pub open-lines : OpenLines
+unfolding whole spaced decimal digits spell
+open-lines = (refl, refl)
+
 -- ---- how long lines are
 pub one-line-as-long : OneLineAsLong
 unfolding whole spaced decimal digits spell
-one-line-as-long = ((omega arith, (omega arith, (omega arith, (omega arith, (omega arith, tt))))), refl)
+one-line-as-long = ((omega arith, (omega arith, (omega arith, (omega arith, (omega arith, (omega arith, tt)))))), refl)
 
 pub no-line-longer : NoLineLonger
 unfolding whole spaced
@@ -117,6 +123,14 @@ no-line-longer (openLine start until teams cap nodes) h =
     let c = decimal-width 1 (natOf teams) (omega arith) in
     let d = decimal-width 3 (natOf cap) (omega arith) in
     let e = decimal-width 3 (natOf nodes) (omega arith) in
+    simp length-append (omega arith)
+no-line-longer (openWithLine start until teams cap nodes program) h =
+    let a = decimal-width 9 (natOf start) (omega arith) in
+    let b = decimal-width 9 (natOf until) (omega arith) in
+    let c = decimal-width 1 (natOf teams) (omega arith) in
+    let d = decimal-width 3 (natOf cap) (omega arith) in
+    let e = decimal-width 3 (natOf nodes) (omega arith) in
+    let f = decimal-width 0 (natOf program) (omega arith) in
     simp length-append (omega arith)
 no-line-longer (batchLine team node from to) h =
     let a = decimal-width 1 (natOf team) (omega arith) in

@@ -3,9 +3,11 @@ use Prim.Native.Nat.{ℕ, _≤_, _<_}
 use mathlib.Core.Path.{_≡_}
 use mathlib.Core.Bool.{true, false}
 use mathlib.Core.List.{List}
+use lib.IntN.{pos}
 use lib.ListN.{length, getD, drop}
 use Rattle.line_rules.specs.Decimal.{digit, decimal, readDecimal}
-use Rattle.line_rules.specs.Line.{Line, partsOf, text, anyNegative}
+use Rattle.line_rules.specs.Line.{Line, openLine, openWithLine, partsOf, text, anyNegative}
+use Rattle.line_rules.specs.Words.{ascii}
 use Rattle.line_rules.specs.Written.{refused, answer, after}
 use Rattle.line_rules.specs.Plain.{isDigit, isPlain, all}
 use Rattle.line_rules.specs.Longest.{maxLine, limits, Kept, longest}
@@ -24,6 +26,12 @@ ReadsBack = (n : ℕ) → readDecimal (decimal n) ≡ n
 -- every byte of a line is a lower-case letter, a digit, a space or a line end
 abbrev pub PlainLines : Type 0
 PlainLines = (l : Line) → all isPlain (text l) ≡ true
+
+-- the open line of document 01's example, and the same with its program
+abbrev pub OpenLines : Type 0
+OpenLines =
+    (text (openLine (pos 0) (pos 5) (pos 2) (pos 4) (pos 7)) ≡ ascii "open 0 5 2 4 7\n")
+    × (text (openWithLine (pos 0) (pos 5) (pos 2) (pos 4) (pos 7) (pos 2)) ≡ ascii "open 0 5 2 4 7 2\n")
 
 -- No line is longer than the longest, and one is as long.
 abbrev pub NoLineLonger : Type 0

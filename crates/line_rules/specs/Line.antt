@@ -9,9 +9,11 @@ use Rattle.line_rules.specs.Decimal.{decimal}
 use Rattle.line_rules.specs.Words.{openWord, batchWord, splitWord, leftWord, stoppedWord, refusedWord}
 
 -- "Fields: the header's numbers; batch team node from to; split node left middle; unclaimed count and stopped teams."
--- "A refused text prints only `refused CODE LINE`."
+-- "A refused text prints only `refused CODE LINE`." By W6 a header's sixth number names the program, "and the open line prints it"; five
+-- numbers keep "the old open line".
 pub data Line : Type 0 where
   openLine : (start until teams cap nodes : ℤ) → Line
+  openWithLine : (start until teams cap nodes program : ℤ) → Line
   batchLine : (team node from to : ℤ) → Line
   splitLine : (node left middle : ℤ) → Line
   leftLine : (count stopped : ℤ) → Line
@@ -24,6 +26,7 @@ pub data Part : Type 0 where
 
 abbrev pub wordOf : Line → List ℕ
 wordOf (openLine start until teams cap nodes) = openWord
+wordOf (openWithLine start until teams cap nodes program) = openWord
 wordOf (batchLine team node from to) = batchWord
 wordOf (splitLine node left middle) = splitWord
 wordOf (leftLine count stopped) = leftWord
@@ -32,6 +35,8 @@ wordOf (refusedLine code line) = refusedWord
 abbrev pub partsOf : Line → List Part
 partsOf (openLine start until teams cap nodes) =
     number start ∷ number until ∷ number teams ∷ number cap ∷ number nodes ∷ []
+partsOf (openWithLine start until teams cap nodes program) =
+    number start ∷ number until ∷ number teams ∷ number cap ∷ number nodes ∷ number program ∷ []
 partsOf (batchLine team node from to) = number team ∷ number node ∷ number from ∷ number to ∷ []
 partsOf (splitLine node left middle) = number node ∷ number left ∷ number middle ∷ []
 partsOf (leftLine count stopped) = number count ∷ word stoppedWord ∷ number stopped ∷ []

@@ -8,5 +8,5 @@ pub struct Written {
 
 impl Written {
     // The bytes of the longest line that `sheets` prints, its line end among them.
-    pub const LONGEST: usize = 40;
+    pub const LONGEST: usize = 42;
 }

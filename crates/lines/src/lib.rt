@@ -8,7 +8,7 @@ ghost use lib.IntN.{pos};
 ghost use lib.ListN.{length};
 ghost use Rattle.numbers.specs.Fields.{natOf};
 ghost use Rattle.line_rules.specs.Decimal.{decimal};
-ghost use Rattle.line_rules.specs.Line.{openLine, batchLine, splitLine, leftLine, refusedLine, number, space, text, anyNegative};
+ghost use Rattle.line_rules.specs.Line.{openLine, openWithLine, batchLine, splitLine, leftLine, refusedLine, number, space, text, anyNegative};
 ghost use Rattle.line_rules.specs.Written.{refused, granted, answer, after};
 ghost use Rattle.lines.specs.Area.{Put, added, addedTo};
 ghost use Rattle.lines.specs.Fields.{field, widths, ending, endStopped, endLeft, Few};
@@ -77,7 +77,7 @@ fn put_field(area: &mut [u8], at: usize, n: u64) -> usize
     put_number(area, next, n)
 }
 
-// The last numbers of a line, and its line end: one, two, three, four or five. They are not taken from an array, which would cost as much
+// The last numbers of a line, and its line end: one, two, three, four, five or six. They are not taken from an array, which would cost as much
 // as their digits do.
 fn end_one(area: &mut [u8], at: usize, a: u64) -> usize
     requires { ⌜ at + length (ending (a ∷ [])) ≤ length (now area) ⌝ }
@@ -117,6 +117,14 @@ fn end_five(area: &mut [u8], at: usize, a: u64, b: u64, c: u64, d: u64, e: u64) 
 {
     let next = put_field(area, at, a);
     end_four(area, next, b, c, d, e)
+}
+
+fn end_six(area: &mut [u8], at: usize, a: u64, b: u64, c: u64, d: u64, e: u64, f: u64) -> usize
+    requires { ⌜ at + length (ending (a ∷ b ∷ c ∷ d ∷ e ∷ f ∷ [])) ≤ length (now area) ⌝ }
+    ensures { λ r. ⌜ Put (now (area .entry)) at (ending (a ∷ b ∷ c ∷ d ∷ e ∷ f ∷ [])) r (now (area .exit)) ⌝ }
+{
+    let next = put_field(area, at, a);
+    end_five(area, next, b, c, d, e, f)
 }
 
 // The word inside a line, after its space.
@@ -191,6 +199,33 @@ pub fn add_open(
     if fits(area.len(), at, 5, &[start, until, teams, cap, nodes]) {
         let next = put(area, at, b"open");
         end_five(area, next, start, until, teams, cap, nodes)
+    } else {
+        at
+    }
+}
+
+// The open line of a header that names a program.
+pub fn add_open_with(
+    area: &mut [u8],
+    at: usize,
+    start: u64,
+    until: u64,
+    teams: u64,
+    cap: u64,
+    nodes: u64,
+    program: u64,
+) -> usize
+    ensures { λ r. ⌜ r ≡ addedTo (text (openWithLine (pos start) (pos until) (pos teams) (pos cap) (pos nodes) (pos program))) at (length (now (area .entry))) ⌝ }
+    ensures { λ _. ⌜ now (area .exit) ≡ added (text (openWithLine (pos start) (pos until) (pos teams) (pos cap) (pos nodes) (pos program))) at (now (area .entry)) ⌝ }
+{
+    if fits(
+        area.len(),
+        at,
+        5,
+        &[start, until, teams, cap, nodes, program],
+    ) {
+        let next = put(area, at, b"open");
+        end_six(area, next, start, until, teams, cap, nodes, program)
     } else {
         at
     }
@@ -304,6 +339,33 @@ pub fn open_line(
         wide(teams),
         wide(cap),
         wide(nodes),
+    ))
+}
+
+pub fn open_with_line(
+    area: &mut [u8],
+    start: i32,
+    until: i32,
+    teams: i32,
+    cap: i32,
+    nodes: i32,
+    program: i32,
+) -> Written
+    ensures { λ r. ⌜ r ≡ answer (openWithLine start until teams cap nodes program) (length (now (area .entry))) ⌝ }
+    ensures { λ _. ⌜ now (area .exit) ≡ after (openWithLine start until teams cap nodes program) (now (area .entry)) ⌝ }
+{
+    if numbers::is_negative(start) | any_negative(until, teams, cap, nodes, program) {
+        return refuse(25);
+    }
+    ended(add_open_with(
+        area,
+        0,
+        wide(start),
+        wide(until),
+        wide(teams),
+        wide(cap),
+        wide(nodes),
+        wide(program),
     ))
 }
 

@@ -21,6 +21,23 @@ fn open(at: usize, start: i32, until: i32, teams: i32, cap: i32, nodes: i32) {
     }
 }
 
+fn open_with(at: usize, start: i32, until: i32, teams: i32, cap: i32, nodes: i32, program: i32) {
+    let mut dots = [b'.'; 44];
+    let area: &mut [u8] = &mut dots;
+    if at <= area.len() {
+        let written = lines::open_with_line(
+            &mut area[at..],
+            start,
+            until,
+            teams,
+            cap,
+            nodes,
+            program,
+        );
+        show(written, area);
+    }
+}
+
 fn batch(at: usize, team: i32, node: i32, from: i32, to: i32) {
     let mut dots = [b'.'; 44];
     let area: &mut [u8] = &mut dots;
@@ -60,6 +77,8 @@ fn refused(at: usize, code: i32, line: i32) {
 // Lines with bytes before and after them, which stay, and numbers of one to ten digits.
 fn with_room() {
     open(0, 0, 5, 2, 4, 7);
+    open_with(0, 0, 5, 2, 4, 7, 1);
+    open_with(3, 0, 5, 2, 4, 7, 2);
     batch(0, 1, 1, 0, 1);
     split(3, 1, 2, 3);
     left(3, 2, 0);
@@ -73,6 +92,7 @@ fn with_room() {
 // Areas that end with the line: the longest of each kind.
 fn exact() {
     open(4, 2147483647, 2147483647, 32, 4096, 1023);
+    open_with(2, 2147483647, 2147483647, 32, 4096, 1023, 2);
     batch(8, 32, 1023, 2147483647, 2147483647);
     split(17, 1023, 1022, 2147483646);
     left(17, 2147483647, 32);
@@ -82,6 +102,7 @@ fn exact() {
 // The same lines in areas one byte shorter, and in no area at all: 28.
 fn too_short() {
     open(5, 2147483647, 2147483647, 32, 4096, 1023);
+    open_with(3, 2147483647, 2147483647, 32, 4096, 1023, 2);
     batch(9, 32, 1023, 2147483647, 2147483647);
     split(18, 1023, 1022, 2147483646);
     left(18, 2147483647, 32);
@@ -93,12 +114,15 @@ fn too_short() {
 fn negative() {
     open(0, -1, 5, 2, 4, 7);
     open(0, 0, 5, 2, 4, -1);
+    open_with(0, -1, 5, 2, 4, 7, 1);
+    open_with(0, 0, 5, 2, 4, 7, -1);
     batch(0, 1, -2147483648, 0, 1);
     split(0, 1, 2, -3);
     left(0, -2, 0);
     left(0, 2, -1);
     refused(0, 24, -1);
     open(44, 0, 5, -2, 4, 7);
+    open_with(44, 0, 5, 2, 4, 7, -2);
     left(44, 0, -1);
 }
 

@@ -50,11 +50,12 @@ module _ (bytes : List ℕ) (area later : List ℤ) (s : Schedule) (is : s ≡ s
   pub steps-are : take (s .count) later ≡ teamsIn bytes
   steps-are = rw (count-is, later-is) (take-at (map signed ns) (drop (length ns) area) (length ns) (length-map ns signed))
 
-  pub runnable : Runnable (s .opening) (s .count) later
+  pub runnable : Runnable (s .opening) (s .program) (s .count) later
   runnable =
       let f = opens-facts (scheduleOf (length area) bytes .opening) (limits .opening) in
       record {
         opened = rw is (limits .opening);
+        known = rw is (limits .program);
         inside = rw (count-is, later-is, length-append) (omega (arith, length-map ns signed));
         teams = λ i h.
             rw later-is
@@ -85,6 +86,6 @@ module _ (room : ℕ) (bytes out : List ℕ) (s : Schedule) (is : s ≡ schedule
   pub granted-whole : {r : ℕ} {later : List ℕ} (schedule : List ℤ)
       → s .code ≡ 0
       → schedule ≡ teamsIn bytes
-      → Put out 0 (bytesOf (runLines (s .opening) schedule)) r later
+      → Put out 0 (bytesOf (runLines (s .opening) (s .program) schedule)) r later
       → Stands out (bytesOf (linesOf room bytes)) r later
   granted-whole schedule good e p = rw (granted-lines room bytes (rw is at good)) (rw (is, e) at (put-stands p))

@@ -18,7 +18,7 @@ use Rattle.rules.specs.declared.Opened.{Opened}
 use Rattle.rules.specs.declared.View.{View}
 use Rattle.rules.specs.declared.Change.{Change}
 use Rattle.rules.specs.declared.Change.the-variants.{Keep, Own, Advance, Mark, Split}
-use Rattle.rules.specs.Limits.{opens, maxCap, maxTeams, maxNodes}
+use Rattle.rules.specs.Limits.{opens, maxCap, maxTeams, maxNodes, maxProgram}
 use Rattle.rules.specs.Nodes.{blank, owned, parted, leftPart}
 use Rattle.rules.specs.States.{stolenOf}
 use Rattle.rules.specs.Requests.{view, alone, changed}
@@ -32,7 +32,7 @@ use Rattle.rules.proofs.Record.{WF, used-high}
 use Rattle.rules.proofs.States.{fresh-none, blank-none}
 use Rattle.steps.specs.declared.Team.{Team}
 use Rattle.steps.specs.declared.Turned.{Turned}
-use Rattle.steps.specs.Records.{freshTeam, noTeam, isStopped}
+use Rattle.steps.specs.Records.{programOf, freshTeam, noTeam, isStopped}
 use Rattle.steps.specs.Step.{slotOf, recordOf, lentCode, lentStep, stepUnless, recordsAfter}
 use Rattle.steps.specs.Turn.{asks, moves, still, turning, turned, carried}
 use Rattle.steps.specs.Run.{Run, stepTeam, runSteps}
@@ -149,7 +149,7 @@ pub record Arms (cap : ℕ) (u : Run) (s : List ℤ) (l : Ledger) (rs : List Tea
   -- no step reports or pushes
   pub moving : Moving c
 
-module _ {o : Opening} {cap : ℕ} {u : Run} (b : Begun o cap u) (s : List ℤ) (i : ℕ) (less : i < length s) (l : Ledger) (rs : List Team)
+module _ {o : Opening} {program cap : ℕ} {u : Run} (b : Begun o program cap u) (s : List ℤ) (i : ℕ) (less : i < length s) (l : Ledger) (rs : List Team)
     (inv : runWith l rs ≡ runFrom (pos cap) u (take i s)) (mine : within (getD s i (pos 0)) 1 (natOf (o .teams)) ≡ true) where
   abbrev number : ℤ
   number = getD s i (pos 0)
@@ -246,18 +246,19 @@ module _ {o : Opening} {cap : ℕ} {u : Run} (b : Begun o cap u) (s : List ℤ) 
 
 -- ---- before the loop
 
-pub begun-with : (o : Opening) (cap : ℕ) (d : Opened) (rs : List Team)
+pub begun-with : (o : Opening) (program cap : ℕ) (d : Opened) (rs : List Team)
     → opens o ≡ true
+    → program ≤ maxProgram
     → cap ≡ natOf (o .cap)
     → d ≡ opening o
-    → rs ≡ replicate maxTeams freshTeam
-    → Begun o cap (runWith (d .ledger) rs)
+    → rs ≡ replicate maxTeams (freshTeam (programOf program))
+    → Begun o program cap (runWith (d .ledger) rs)
 unfolding opening
-begun-with o cap d rs ok ec ed er = record { ok = ok; cap-is = ec; start-is = rw (ed, ok, er) }
+begun-with o program cap d rs ok known ec ed er = record { ok = ok; known = known; cap-is = ec; start-is = rw (ed, ok, er) }
 
-pub none-stolen : (o : Opening) (cap : ℕ) (l : Ledger) (rs : List Team) → Begun o cap (runWith l rs) → _≡_ {A = ℕ} 0 (stolenIn l)
+pub none-stolen : (o : Opening) (program cap : ℕ) (l : Ledger) (rs : List Team) → Begun o program cap (runWith l rs) → _≡_ {A = ℕ} 0 (stolenIn l)
 unfolding stolenIn
-none-stolen o cap l rs b =
+none-stolen o program cap l rs b =
     let e : l ≡ ledgerOf o = ap (λ (u : Run). u .ledger) (b .start-is) in
     rw e (sym (sumBy-zero stolenOf (ledgerOf o .nodes) blank (λ i h. rw (← at-next (ledgerOf o) i) (go i (decLe (i + 1) 1)))))
   where

@@ -34,7 +34,7 @@ fn write(text: &[u8], schedule: &mut [i32], out: &mut [u8]) -> usize
     if s.code != 0 {
         return notes::refusal(out, s.code, s.line);
     }
-    run::run(schedule, s.count, s.opening, out)
+    run::run(schedule, s.count, s.opening, s.program, out)
 }
 
 // The listing of a text at the front of `out`. The area `schedule` is for the text's team numbers. A call is refused, with 28, where `out`

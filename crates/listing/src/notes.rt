@@ -6,22 +6,41 @@ ghost use Rattle.numbers.specs.Progress.{signed};
 ghost use Rattle.line_rules.specs.Line.{refusedLine, text};
 ghost use Rattle.lines.specs.Area.{Put};
 ghost use Rattle.listing_rules.specs.Listing.{bytesOf};
-ghost use Rattle.listing_rules.specs.Steps.{noteOf, headLine};
+ghost use Rattle.listing_rules.specs.Steps.{noteOf, openBy, headLine};
 use rules::Opening;
 use rules::Request;
 use steps::Turned;
 
-// The open line: the header's numbers.
-pub(crate) fn head(out: &mut [u8], o: Opening) -> usize
-    requires { ⌜ 0 + length (text (headLine o)) ≤ length (now out) ⌝ }
-    ensures { λ r. ⌜ Put (now (out .entry)) 0 (text (headLine o)) r (now (out .exit)) ⌝ }
+// The open line by its numbers. One of five has no program's.
+fn open_by(
+    out: &mut [u8],
+    start: u64,
+    until: u64,
+    teams: u64,
+    cap: u64,
+    nodes: u64,
+    program: u64,
+) -> usize
+    requires { ⌜ 0 + length (text (openBy (pos start) (pos until) (pos teams) (pos cap) (pos nodes) program)) ≤ length (now out) ⌝ }
+    ensures { λ r. ⌜ Put (now (out .entry)) 0 (text (openBy (pos start) (pos until) (pos teams) (pos cap) (pos nodes) program)) r (now (out .exit)) ⌝ }
+{
+    if program == 0 {
+        return lines::add_open(out, 0, start, until, teams, cap, nodes);
+    }
+    lines::add_open_with(out, 0, start, until, teams, cap, nodes, program)
+}
+
+// The open line: the header's numbers, with the program's where it has one.
+pub(crate) fn head(out: &mut [u8], o: Opening, program: u32) -> usize
+    requires { ⌜ 0 + length (text (headLine o program)) ≤ length (now out) ⌝ }
+    ensures { λ r. ⌜ Put (now (out .entry)) 0 (text (headLine o program)) r (now (out .exit)) ⌝ }
 {
     let start = numbers::natural(o.start) as u64;
     let until = numbers::natural(o.until) as u64;
     let teams = numbers::natural(o.teams) as u64;
     let cap = numbers::natural(o.cap) as u64;
     let nodes = numbers::natural(o.nodes) as u64;
-    lines::add_open(out, 0, start, until, teams, cap, nodes)
+    open_by(out, start, until, teams, cap, nodes, program as u64)
 }
 
 // The line of a step, where it has one.

@@ -5,7 +5,7 @@ ghost use Prim.Native.Nat.{_+_, _≤_};
 ghost use lib.ListN.{length, take, replicate};
 ghost use Rattle.rules.specs.Limits.{maxTeams};
 ghost use Rattle.rules.specs.WellFormed.{wellFormed};
-ghost use Rattle.steps.specs.Records.{freshTeam, isStopped};
+ghost use Rattle.steps.specs.Records.{programOf, freshTeam, isStopped};
 ghost use Rattle.steps.specs.Step.{slotOf};
 ghost use Rattle.steps.specs.Run.{stoppedTo};
 ghost use Rattle.line_rules.specs.Line.{text};
@@ -20,12 +20,13 @@ use rules::Change;
 use rules::Ledger;
 use rules::Opening;
 use steps::Place;
+use steps::Program;
 use steps::Team;
 
-fn fresh_teams() -> [Team; Team::RECORDS]
-    ensures { λ r. ⌜ r ≡ replicate maxTeams freshTeam ⌝ }
+fn fresh_teams(program: u32) -> [Team; Team::RECORDS]
+    ensures { λ r. ⌜ r ≡ replicate maxTeams (freshTeam (programOf program)) ⌝ }
 {
-    let t = Team::fresh();
+    let t = Team::fresh(Program::of(program));
     [t; Team::RECORDS]
 }
 
@@ -77,16 +78,16 @@ fn last(out: &mut [u8], at: usize, book: Ledger, teams: [Team; Team::RECORDS]) -
 }
 
 // The lines of a run: the open line, a line for each step that has one, and the left line. They have room.
-pub(crate) fn run(schedule: &[i32], count: usize, o: Opening, out: &mut [u8]) -> usize
-    requires { ⌜ Runnable o count (now schedule) × (roomFor count ≤ length (now out)) ⌝ }
-    ensures { λ r. ⌜ Put (now (out .entry)) 0 (bytesOf (runLines o (take count (now (schedule .entry))))) r (now (out .exit)) ⌝ }
+pub(crate) fn run(schedule: &[i32], count: usize, o: Opening, program: u32, out: &mut [u8]) -> usize
+    requires { ⌜ Runnable o program count (now schedule) × (roomFor count ≤ length (now out)) ⌝ }
+    ensures { λ r. ⌜ Put (now (out .entry)) 0 (bytesOf (runLines o program (take count (now (schedule .entry))))) r (now (out .exit)) ⌝ }
 {
     let cap = numbers::natural(o.cap);
     let opened = ledger::open(o);
     let mut book = opened.ledger;
-    let mut teams = fresh_teams();
+    let mut teams = fresh_teams(program);
     let mut stolen: u32 = 0;
-    let mut end = notes::head(out, o);
+    let mut end = notes::head(out, o, program);
     let mut i = 0;
     while i < count {
         let number = schedule[i];

@@ -11,6 +11,7 @@ use lib.ListN.{length, getD, length-map, length-append, length-drop}
 use borrow.Author.Tests.{le-leb, lt-leb, ne-eqb}
 use Rattle.numbers.specs.Progress.{signed}
 use Rattle.numbers.specs.Fields.{natOf, within}
+use Rattle.steps.specs.Records.{programOf}
 use Rattle.rules.specs.declared.Opening.{Opening}
 use Rattle.rules.specs.Limits.{opens, maxTeams}
 use Rattle.rules.specs.Count.{unclaimed}
@@ -35,7 +36,7 @@ use Rattle.listing_rules.specs.Steps.{headLine, lastLine, notes, startOf
 use Rattle.listing_rules.specs.Listing.{teamsIn, linesBy, linesOf, bytesOf, listingOf}
 use Rattle.listing_rules.specs.Lent.{roomFor, answerTo, outAfter, scheduleAfter}
 use Rattle.listing_rules.specs.Grants.{claimsIn, asked}
-use Rattle.listing_rules.specs.Demands.{IsGranted, opensWith, askedBy, PlainListing, RefusedInOneLine, CommentsNeverPrinted, PrintsWhatWasGranted, NoSheetPrintedTwice, EverySheetPrintedOnce, AllStoppedNoneLeft, StandsIn, WholeOrRefused, RoomIsEnough, PrintsTheListing, PrintsTheSame}
+use Rattle.listing_rules.specs.Demands.{IsGranted, opensWith, playsAs, askedBy, PlainListing, RefusedInOneLine, CommentsNeverPrinted, OpensAsWritten, PrintsWhatWasGranted, NoSheetPrintedTwice, EverySheetPrintedOnce, AllStoppedNoneLeft, StandsIn, WholeOrRefused, RoomIsEnough, PrintsTheListing, PrintsTheSame}
 use Rattle.listing_rules.proofs.Lines.{AllShort, none, more, short-append, plain-bytes, short-bytes}
 use Rattle.listing_rules.proofs.Noted.{RunTells, run-tells, claims-of-run}
 use Rattle.listing_rules.proofs.Teams.{front-teams}
@@ -51,7 +52,7 @@ pub refused-lines : (steps : ℕ) (bytes : List ℕ) → scheduleOf steps bytes 
 unfolding linesOf
 refused-lines steps bytes bad = rw (ne-eqb (scheduleOf steps bytes .code) 0 bad)
 
-pub granted-lines : (steps : ℕ) (bytes : List ℕ) → IsGranted steps bytes → linesOf steps bytes ≡ runLines (opensWith steps bytes) (teamsIn bytes)
+pub granted-lines : (steps : ℕ) (bytes : List ℕ) → IsGranted steps bytes → linesOf steps bytes ≡ runLines (opensWith steps bytes) (playsAs steps bytes) (teamsIn bytes)
 unfolding linesOf
 granted-lines steps bytes good = rw good
 
@@ -72,6 +73,9 @@ module _ (steps : ℕ) (bytes : List ℕ) (good : IsGranted steps bytes) where
   abbrev o : Opening
   o = opensWith steps bytes
 
+  abbrev program : ℕ
+  program = playsAs steps bytes
+
   abbrev s : List ℤ
   s = teamsIn bytes
 
@@ -90,8 +94,8 @@ module _ (steps : ℕ) (bytes : List ℕ) (good : IsGranted steps bytes) where
       rw append-nil at
       (front-teams (natOf (o .teams)) ns [] (omega (arith, opens-facts o ok .teams .high)) (limits .teams) i (omega (arith, length-map ns signed)))
 
-  tells : RunTells (ledgerOf o) (length s) (notes (o .cap) (startOf o) s) (asked (o .cap) (startOf o) s) (endOf o s .ledger)
-  tells = rw cap-is at (run-tells o ok (startOf o) s each-team (start-fits o ok))
+  tells : RunTells (ledgerOf o) (length s) (notes (o .cap) (startOf o program) s) (asked (o .cap) (startOf o program) s) (endOf o program s .ledger)
+  tells = rw cap-is at (run-tells o ok (startOf o program) s each-team (start-fits o ok program))
 
   opened-is : opening o .ledger ≡ ledgerOf o
   unfolding opening
@@ -101,17 +105,17 @@ module _ (steps : ℕ) (bytes : List ℕ) (good : IsGranted steps bytes) where
   unfolding opening
   opens-code = rw ok
 
-  printed-batches : claimsIn (linesOf steps bytes) ≡ batches (ledgerOf o) (asked (o .cap) (startOf o) s)
+  printed-batches : claimsIn (linesOf steps bytes) ≡ batches (ledgerOf o) (asked (o .cap) (startOf o program) s)
   printed-batches =
-      ap claimsIn (granted-lines steps bytes good) ∙ claims-of-run o s ∙ tells .told .claims
+      ap claimsIn (granted-lines steps bytes good) ∙ claims-of-run o program s ∙ tells .told .claims
 
   -- ---- its lines are short
 
-  begins : Begun o (natOf (o .cap)) (startOf o)
-  begins = record { ok = ok; cap-is = refl; start-is = refl }
+  begins : Begun o program (natOf (o .cap)) (startOf o program)
+  begins = record { ok = ok; known = limits .program; cap-is = refl; start-is = refl }
 
-  end-here : Here o (natOf (o .cap)) (endOf o s .ledger) (endOf o s .records)
-  end-here = here begins s (endOf o s .ledger) (endOf o s .records) (rw cap-is)
+  end-here : Here o (natOf (o .cap)) (endOf o program s .ledger) (endOf o program s .records)
+  end-here = here begins s (endOf o program s .ledger) (endOf o program s .records) (rw cap-is)
 
   run-short : AllShort (linesOf steps bytes)
   unfolding runLines
@@ -161,6 +165,9 @@ pub comments-never-printed : CommentsNeverPrinted
 unfolding listingOf linesOf
 comments-never-printed s t r = rw (comments-never-matter s t r .schedule scheduleRoom, same-marks r)
 
+pub opens-as-written : OpensAsWritten
+opens-as-written o = (refl, λ program some. rw (ne-eqb program 0 some))
+
 pub prints-what-was-granted : PrintsWhatWasGranted
 prints-what-was-granted steps bytes good =
     record {
@@ -183,15 +190,16 @@ pub all-stopped-none-left : AllStoppedNoneLeft
 unfolding runLines
 all-stopped-none-left steps bytes before count good e =
     let o = opensWith steps bytes in
-    let u = endOf o (teamsIn bytes) in
+    let program = playsAs steps bytes in
+    let u = endOf o program (teamsIn bytes) in
     let last : lastLine u ≡ leftLine count (o .teams) =
-    sym (last-is (lastLine u) (headLine o ∷ notes (o .cap) (startOf o) (teamsIn bytes)) (lastLine u))
+    sym (last-is (lastLine u) (headLine o program ∷ notes (o .cap) (startOf o program) (teamsIn bytes)) (lastLine u))
     ∙ ap (lastOf (lastLine u)) (sym (granted-lines steps bytes good) ∙ e)
     ∙ last-is (lastLine u) before (leftLine count (o .teams)) in
     let stopped : pos (stoppedTeams u) ≡ o .teams = cc in
     let left : count ≡ pos (unclaimed (u .ledger)) = cc in
     let all : stoppedTeams u ≡ u .ledger .teams = omega (arith, ap natOf stopped, stopped-most (end-here steps bytes good), end-here steps bytes good .teams-are) in
-    let none : unclaimed (u .ledger) ≡ 0 = nothing-left o _ _ (ok steps bytes good) (all-fresh maxTeams (natOf (o .teams)) (opens-facts o (ok steps bytes good) .teams .high)) all in
+    let none : unclaimed (u .ledger) ≡ 0 = nothing-left o _ _ (ok steps bytes good) (all-fresh (programOf program) maxTeams (natOf (o .teams)) (opens-facts o (ok steps bytes good) .teams .high)) all in
     left ∙ rw none
 
 pub room-is-enough : RoomIsEnough

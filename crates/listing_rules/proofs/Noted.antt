@@ -39,8 +39,8 @@ use Rattle.steps.specs.Run.{Run, stepTeam, runSteps}
 use Rattle.steps.proofs.Turns.{asks-team}
 use Rattle.line_rules.specs.Line.{Line, batchLine, splitLine}
 use Rattle.line_rules.proofs.Demands.{no-line-longer}
-use Rattle.listing_rules.specs.Steps.{grants, noteOf, stepLine, runWith, runFrom, startOf, notes, runLines}
-use Rattle.listing_rules.specs.Grants.{claimsIn, asksIn, asked}
+use Rattle.listing_rules.specs.Steps.{isNamed, grants, noteOf, stepLine, runWith, runFrom, startOf, notes, runLines}
+use Rattle.listing_rules.specs.Grants.{claimIn, claimsIn, asksIn, asked}
 use Rattle.listing_rules.proofs.Lines.{AllShort, none, more, short-append}
 use Rattle.listing_rules.proofs.Runs.{Fits, here-of, step-fits}
 
@@ -177,9 +177,15 @@ told-more {l} {mid} {next} {xs} {ys} {rs} {qs} {steps} s t =
     }
 
 -- the open line and the left line tell of no batch
-pub claims-of-run : (o : Opening) (s : List ℤ) → claimsIn (runLines o s) ≡ claimsIn (notes (o .cap) (startOf o) s)
+no-claim : (b : Bool) (x y : Line) → claimIn x ≡ [] → claimIn y ≡ [] → claimIn (cond b x y) ≡ []
+no-claim true x y e f = e
+no-claim false x y e f = f
+
+pub claims-of-run : (o : Opening) (program : ℕ) (s : List ℤ)
+    → claimsIn (runLines o program s) ≡ claimsIn (notes (o .cap) (startOf o program) s)
 unfolding runLines claimsIn
-claims-of-run o s = rw (append-nil, claims-append (notes (o .cap) (startOf o) s))
+claims-of-run o program s =
+    rw (no-claim (isNamed program) _ _ refl refl, append-nil, claims-append (notes (o .cap) (startOf o program) s))
 
 module _ (o : Opening) (ok : opens o ≡ true) where
   abbrev most : ℕ

@@ -8,10 +8,11 @@ use Rattle.numbers.specs.Fields.{natOf, within}
 use Rattle.numbers.proofs.Laws.{within-made, within-true}
 use Rattle.rules.specs.declared.Ledger.{Ledger}
 use Rattle.rules.specs.declared.Opening.{Opening}
-use Rattle.rules.specs.Limits.{opens, maxCap, maxTeams}
+use Rattle.rules.specs.Limits.{opens, maxCap, maxTeams, maxProgram}
 use Rattle.rules.proofs.Opens.{opens-facts}
 use Rattle.rules.proofs.Record.{WF}
 use Rattle.steps.specs.declared.Team.{Team}
+use Rattle.steps.specs.Records.{programOf}
 use Rattle.steps.specs.Step.{recordOf, lentCode}
 use Rattle.steps.specs.Run.{Run, stepTeam, runSteps}
 use Rattle.steps.proofs.Fits.{Fit}
@@ -19,11 +20,12 @@ use Rattle.steps.proofs.Refused.{Fitting, run-fits, never-refused-at, begun-fit
 use Rattle.steps.proofs.Runs.{all-fresh}
 use Rattle.listing_rules.specs.Steps.{runWith, runFrom, startOf}
 
--- the run u begins with an opening, in a run with this cap
-pub record Begun (o : Opening) (cap : ℕ) (u : Run) : Type 0 where
+-- the run u begins with an opening and a program, in a run with this cap
+pub record Begun (o : Opening) (program cap : ℕ) (u : Run) : Type 0 where
   pub ok : opens o ≡ true
+  pub known : program ≤ maxProgram
   pub cap-is : cap ≡ natOf (o .cap)
-  pub start-is : u ≡ startOf o
+  pub start-is : u ≡ startOf o program
 
 -- the ledger and the records after any steps
 pub record Here (o : Opening) (cap : ℕ) (l : Ledger) (rs : List Team) : Type 0 where
@@ -43,9 +45,9 @@ module _ (o : Opening) (ok : opens o ≡ true) where
   abbrev pub Fits : Run → Type 0
   Fits u = Fitting (pos cap) limited (natOf (o .teams)) u
 
-  pub start-fits : Fits (startOf o)
-  start-fits =
-      begun-fits (pos cap) limited o _ ok (all-fresh maxTeams (natOf (o .teams)) (opens-facts o ok .teams .high))
+  pub start-fits : (program : ℕ) → Fits (startOf o program)
+  start-fits program =
+      begun-fits (pos cap) limited o _ ok (all-fresh (programOf program) maxTeams (natOf (o .teams)) (opens-facts o ok .teams .high))
 
   run-from-fits : (s : List ℤ) (u : Run) → Fits u → Fits (runFrom (pos cap) u s)
   run-from-fits s u g =
@@ -66,9 +68,9 @@ module _ (o : Opening) (ok : opens o ≡ true) where
             never-refused-at (pos cap) limited (natOf (o .teams)) (runWith l rs) g;
       }
 
-pub here : {o : Opening} {cap : ℕ} {u : Run} → Begun o cap u → (s : List ℤ) (l : Ledger) (rs : List Team)
+pub here : {o : Opening} {program cap : ℕ} {u : Run} → Begun o program cap u → (s : List ℤ) (l : Ledger) (rs : List Team)
     → runWith l rs ≡ runFrom (pos cap) u s
     → Here o cap l rs
-here {o} b s l rs e =
-    let ran : runWith l rs ≡ runFrom (pos (natOf (o .cap))) (startOf o) s = rw (b .cap-is, b .start-is) at e in
-    rw (b .cap-is) (here-of o (b .ok) l rs (rw ran (run-from-fits o (b .ok) s (startOf o) (start-fits o (b .ok)))))
+here {o} {program} b s l rs e =
+    let ran : runWith l rs ≡ runFrom (pos (natOf (o .cap))) (startOf o program) s = rw (b .cap-is, b .start-is) at e in
+    rw (b .cap-is) (here-of o (b .ok) l rs (rw ran (run-from-fits o (b .ok) s (startOf o program) (start-fits o (b .ok) program))))

@@ -15,10 +15,10 @@ use Rattle.laws.specs.Listing.{sheets, batches, reached, timesIn, ListsOnly}
 use Rattle.rules.specs.Opening.{opening}
 use Rattle.text_rules.specs.Answers.{scheduleOf}
 use Rattle.text_rules.specs.Demands.{scheduleRoom, SameButComments}
-use Rattle.line_rules.specs.Line.{Line, leftLine, refusedLine, text}
+use Rattle.line_rules.specs.Line.{Line, openLine, openWithLine, leftLine, refusedLine, text}
 use Rattle.line_rules.specs.Plain.{isPlain, all}
 use Rattle.listing_rules.specs.declared.Listed.{Listed}
-use Rattle.listing_rules.specs.Steps.{startOf, endOf}
+use Rattle.listing_rules.specs.Steps.{headLine, startOf, endOf}
 use Rattle.listing_rules.specs.Listing.{teamsIn, linesOf, bytesOf, listingOf}
 use Rattle.listing_rules.specs.Lent.{roomFor, answerTo, outAfter, scheduleAfter}
 use Rattle.listing_rules.specs.Grants.{claimsIn, asked}
@@ -41,20 +41,33 @@ RefusedInOneLine =
 abbrev pub CommentsNeverPrinted : Type 0
 CommentsNeverPrinted = (s t : List ℕ) → SameButComments false s t → listingOf s ≡ listingOf t
 
+-- The open line has the header's five numbers, and a sixth exactly where the header has one.
+abbrev pub OpensAsWritten : Type 0
+OpensAsWritten =
+    (o : Opening)
+    → (headLine o 0 ≡ openLine (o .start) (o .until) (o .teams) (o .cap) (o .nodes))
+    × ((program : ℕ)
+    → program ≢ 0
+    → headLine o program ≡ openWithLine (o .start) (o .until) (o .teams) (o .cap) (o .nodes) (pos program))
+
 -- ---- what was granted, in the run of a text that is not refused, with room for so many schedule numbers
 
 abbrev pub IsGranted : ℕ → List ℕ → Type 0
 IsGranted steps bytes = scheduleOf steps bytes .code ≡ 0
 
--- the header's numbers, the requests that the run makes, and the ledger after its last step
+-- the header's numbers, its program, the requests that the run makes, and the ledger after its last step
 abbrev pub opensWith : ℕ → List ℕ → Opening
 opensWith steps bytes = scheduleOf steps bytes .opening
 
+abbrev pub playsAs : ℕ → List ℕ → ℕ
+playsAs steps bytes = scheduleOf steps bytes .program
+
 abbrev pub askedBy : ℕ → List ℕ → List Request
-askedBy steps bytes = asked (opensWith steps bytes .cap) (startOf (opensWith steps bytes)) (teamsIn bytes)
+askedBy steps bytes =
+    asked (opensWith steps bytes .cap) (startOf (opensWith steps bytes) (playsAs steps bytes)) (teamsIn bytes)
 
 abbrev pub lastLedger : ℕ → List ℕ → Ledger
-lastLedger steps bytes = endOf (opensWith steps bytes) (teamsIn bytes) .ledger
+lastLedger steps bytes = endOf (opensWith steps bytes) (playsAs steps bytes) (teamsIn bytes) .ledger
 
 -- The batch lines are exactly what those requests were granted, each once and in their order, and the ledger is the one that they reach.
 pub record Tells (steps : ℕ) (bytes : List ℕ) : Type 0 where

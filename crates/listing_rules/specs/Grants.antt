@@ -9,11 +9,12 @@ use Rattle.steps.specs.Records.{isStopped}
 use Rattle.steps.specs.Step.{recordOf}
 use Rattle.steps.specs.Turn.{asks}
 use Rattle.steps.specs.Run.{Run, stepTeam}
-use Rattle.line_rules.specs.Line.{Line, openLine, batchLine, splitLine, leftLine, refusedLine}
+use Rattle.line_rules.specs.Line.{Line, openLine, openWithLine, batchLine, splitLine, leftLine, refusedLine}
 
 -- the batch that a line tells of
 abbrev pub claimIn : Line → List Batch
 claimIn (openLine start until teams cap nodes) = []
+claimIn (openWithLine start until teams cap nodes program) = []
 claimIn (batchLine team node from to) = record { team = natOf team; node = natOf node; «from» = natOf from; to = natOf to } ∷ []
 claimIn (splitLine node left middle) = []
 claimIn (leftLine count stopped) = []

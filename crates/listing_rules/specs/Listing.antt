@@ -20,7 +20,7 @@ teamsIn bytes = map signed (scheduleNumbers (marks bytes))
 -- "A refused text prints only `refused CODE LINE`."
 abbrev pub linesBy : Schedule → List ℤ → List Line
 linesBy s schedule =
-    cond (eqb (s .code) 0) (runLines (s .opening) schedule) (refusedLine (signed (s .code)) (signed (s .line)) ∷ [])
+    cond (eqb (s .code) 0) (runLines (s .opening) (s .program) schedule) (refusedLine (signed (s .code)) (signed (s .line)) ∷ [])
 
 -- "The whole text is judged before the first step": the lines of a text, with room for so many schedule numbers
 unfoldable pub linesOf : ℕ → List ℕ → List Line

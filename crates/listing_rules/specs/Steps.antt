@@ -1,7 +1,7 @@
 -- "The open line comes first; then, in step order, a batch line for each granted advance and a split line for each granted expand, nothing
 -- for any other step; the left line ends it."
 use Prim.Native.Nat.{ℕ}
-use mathlib.Core.Bool.{Bool, cond, _&&_}
+use mathlib.Core.Bool.{Bool, cond, not, _&&_}
 use mathlib.Core.List.{List, [], _∷_, _++_}
 use lib.Dec.{eqb}
 use lib.IntN.{ℤ, pos}
@@ -14,15 +14,26 @@ use Rattle.rules.specs.Limits.{maxTeams}
 use Rattle.rules.specs.Count.{unclaimed}
 use Rattle.steps.specs.declared.Stepped.{Stepped}
 use Rattle.steps.specs.declared.Team.{Team}
-use Rattle.steps.specs.Records.{freshTeam}
+use Rattle.steps.specs.Records.{programOf, freshTeam}
 use Rattle.steps.specs.Step.{lentStep}
 use Rattle.steps.specs.Run.{Run, begun, stepTeam, runTeams, stoppedTeams}
-use Rattle.line_rules.specs.Line.{Line, openLine, batchLine, splitLine, leftLine}
+use Rattle.line_rules.specs.Line.{Line, openLine, openWithLine, batchLine, splitLine, leftLine}
 
 -- "Fields: the header's numbers; batch team node from to; split node left middle; unclaimed count and stopped teams."
 
-abbrev pub headLine : Opening → Line
-headLine o = openLine (o .start) (o .until) (o .teams) (o .cap) (o .nodes)
+-- "the open line prints it": the program's number, where the header has one
+abbrev pub isNamed : ℕ → Bool
+isNamed program = not (eqb program 0)
+
+abbrev pub openBy : (start until teams cap nodes : ℤ) → ℕ → Line
+openBy start until teams cap nodes program =
+    cond
+    (isNamed program)
+    (openWithLine start until teams cap nodes (pos program))
+    (openLine start until teams cap nodes)
+
+abbrev pub headLine : Opening → ℕ → Line
+headLine o program = openBy (o .start) (o .until) (o .teams) (o .cap) (o .nodes) program
 
 -- a request of that kind, which was granted
 abbrev pub grants : ℕ → ℕ → Answer → Bool
@@ -38,7 +49,7 @@ noteOf team kind node a =
 abbrev pub stepLine : ℤ → Stepped → List Line
 stepLine team s = noteOf team (s .kind) (s .node) (s .answer)
 
--- ---- the run: a new ledger, and a fresh record for each team there can be
+-- ---- the run: a new ledger, and a fresh record for each team there can be, all of one program
 
 abbrev pub runFrom : ℤ → Run → List ℤ → Run
 runFrom cap u schedule = runTeams cap u schedule
@@ -54,11 +65,12 @@ lastLine u = leftLine (pos (unclaimed (u .ledger))) (pos (stoppedTeams u))
 abbrev pub runWith : Ledger → List Team → Run
 runWith l rs = record { ledger = l; records = rs }
 
-abbrev pub startOf : Opening → Run
-startOf o = begun o (replicate maxTeams freshTeam)
+abbrev pub startOf : Opening → ℕ → Run
+startOf o program = begun o (replicate maxTeams (freshTeam (programOf program)))
 
-abbrev pub endOf : Opening → List ℤ → Run
-endOf o schedule = runFrom (o .cap) (startOf o) schedule
+abbrev pub endOf : Opening → ℕ → List ℤ → Run
+endOf o program schedule = runFrom (o .cap) (startOf o program) schedule
 
-unfoldable pub runLines : Opening → List ℤ → List Line
-runLines o schedule = headLine o ∷ (notes (o .cap) (startOf o) schedule ++ (lastLine (endOf o schedule) ∷ []))
+unfoldable pub runLines : Opening → ℕ → List ℤ → List Line
+runLines o program schedule =
+    headLine o program ∷ (notes (o .cap) (startOf o program) schedule ++ (lastLine (endOf o program schedule) ∷ []))

@@ -6,6 +6,7 @@ use rules::Opening;
 use rules::Request;
 use sheet_order::Piece;
 use sheet_order::Pieces;
+use steps::Program;
 use steps::Team;
 
 pub(crate) const TAKE: i32 = Request::OWN as i32;
@@ -98,7 +99,7 @@ pub(crate) struct Run {
 }
 
 pub(crate) fn with_teams(s: Lesson) -> Run {
-    let t = Team::fresh();
+    let t = Team::fresh(Program::Scan);
     Run {
         lesson: s,
         records: [t; Team::RECORDS],

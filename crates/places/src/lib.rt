@@ -1,19 +1,22 @@
-// The seven places: what a team asks at each, and where the answer sends it.
+// The seven places: what a team asks at each, and where the answer sends it. Where the answers to a look and to a mark send it is its
+// program: the scan's stands here, the other's in `greatest`.
 ghost use mathlib.Core.Path.{_≡_};
 ghost use mathlib.Core.Bool.{cond};
 ghost use lib.Dec.{eqb};
 ghost use Rattle.steps.specs.Records.{claim, mark, isStopped};
 ghost use Rattle.numbers.specs.Progress.{signed};
 ghost use Rattle.rules.specs.Asks.{plain};
-ghost use Rattle.steps.specs.Places.{stealable, again, onward, grownSize, sightMoves, seekMoves, takeMoves, workMoves, claimMoves, markMoves, splitMoves};
+ghost use Rattle.steps.specs.Places.{stealable, again, onward, grownSize, sightMoves, seekMoves, takeMoves, workMoves, claimMoves, markMoves, splitMoves, searchOf};
 ghost use Rattle.places.specs.Clipped.{clippedTeam, clippedAnswer, clippedAsks, clippedMoves};
 
+mod greatest;
 mod records;
 
 use rules::Answer;
 use rules::Node;
 use rules::Request;
 use steps::Place;
+use steps::Program;
 use steps::Side;
 use steps::Team;
 
@@ -59,7 +62,7 @@ pub fn asks_of(number: u32, t: Team) -> Request
     }
 }
 
-fn is_stealable(number: u32, a: Answer) -> bool
+pub(crate) fn is_stealable(number: u32, a: Answer) -> bool
     ensures { λ r. ⌜ r ≡ stealable number a ⌝ }
 {
     (a.state == Node::OWNED) & !(a.owner == number)
@@ -161,6 +164,28 @@ fn mark_moves(t: Team, a: Answer) -> Team
     }
 }
 
+// ---- by the record's program
+
+fn search_seek(number: u32, t: Team, a: Answer) -> Team
+    ensures { λ r. ⌜ r ≡ searchOf t .seeking number (clippedTeam t) (clippedAnswer a) ⌝ }
+{
+    let program = t.program;
+    match program {
+        Program::Scan => seek_moves(number, t, a),
+        Program::Greatest => greatest::seek(number, t, a),
+    }
+}
+
+fn search_mark(t: Team, a: Answer) -> Team
+    ensures { λ r. ⌜ r ≡ searchOf t .marking (clippedTeam t) (clippedAnswer a) ⌝ }
+{
+    let program = t.program;
+    match program {
+        Program::Scan => mark_moves(t, a),
+        Program::Greatest => greatest::mark(t, a),
+    }
+}
+
 // A team that comes second to a split is told where the children are, as the first is.
 fn split_moves(t: Team, a: Answer) -> Team
     ensures { λ r. ⌜ r ≡ splitMoves (clippedTeam t) (clippedAnswer a) ⌝ }
@@ -179,11 +204,11 @@ pub fn moves_of(number: u32, cap: u32, t: Team, a: Answer) -> Team
 {
     let place = t.place;
     match place {
-        Place::Seek => seek_moves(number, t, a),
+        Place::Seek => search_seek(number, t, a),
         Place::Take => take_moves(t, a),
         Place::Work => work_moves(number, t, a),
         Place::Claim => claim_moves(cap, t, a),
-        Place::Mark => mark_moves(t, a),
+        Place::Mark => search_mark(t, a),
         Place::Split => split_moves(t, a),
         Place::Stopped => records::stop_here(t),
     }

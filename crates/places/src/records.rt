@@ -1,10 +1,11 @@
 // The moves of a team's record: each sets the fields that it names and keeps the others.
 ghost use mathlib.Core.Path.{_≡_};
 ghost use Prim.Native.Nat.{min};
-ghost use Rattle.steps.specs.Records.{maxNode, placed, aimed, sided, sized, seek, take, work, claim, mark, split, stop, childOn};
+ghost use Rattle.steps.specs.Records.{maxNode, placed, aimed, sided, sized, remembering, seek, take, work, claim, mark, split, stop, childOn};
 ghost use Rattle.steps.specs.Places.{again, onward};
 ghost use Rattle.places.specs.Clipped.{clippedTeam, clippedAnswer};
 use rules::Answer;
+use steps::Memory;
 use steps::Place;
 use steps::Side;
 use steps::Team;
@@ -13,12 +14,16 @@ fn place_at(t: Team, p: Place, n: u32) -> Team
     ensures { λ r. ⌜ r ≡ placed t p n ⌝ }
 {
     let side = t.side;
+    let program = t.program;
+    let memory = t.memory;
     Team {
         place: p,
         node: n,
         position: t.position,
         side: side,
         size: t.size,
+        program: program,
+        memory: memory,
     }
 }
 
@@ -34,12 +39,33 @@ fn turn_to(t: Team, d: Side) -> Team
     ensures { λ r. ⌜ r ≡ sided t d ⌝ }
 {
     let place = t.place;
+    let program = t.program;
+    let memory = t.memory;
     Team {
         place: place,
         node: t.node,
         position: t.position,
         side: d,
         size: t.size,
+        program: program,
+        memory: memory,
+    }
+}
+
+pub(crate) fn remember(t: Team, m: Memory) -> Team
+    ensures { λ r. ⌜ r ≡ remembering t m ⌝ }
+{
+    let place = t.place;
+    let side = t.side;
+    let program = t.program;
+    Team {
+        place: place,
+        node: t.node,
+        position: t.position,
+        side: side,
+        size: t.size,
+        program: program,
+        memory: m,
     }
 }
 
@@ -53,7 +79,7 @@ pub(crate) fn resize(t: Team, k: u32) -> Team
 
 // ---- at the record's own node, clipped
 
-fn node_in(t: Team) -> u32
+pub(crate) fn node_in(t: Team) -> u32
     ensures { λ n. ⌜ n ≡ clippedTeam t .node ⌝ }
 {
     numbers::lesser(t.node, Team::NODE)
@@ -118,7 +144,19 @@ pub(crate) fn onward_from(t: Team) -> Team
 pub(crate) fn start_again(t: Team) -> Team
     ensures { λ r. ⌜ r ≡ again t ⌝ }
 {
-    place_at(t, Place::Seek, 1)
+    remember(place_at(t, Place::Seek, 1), Memory::Nothing)
+}
+
+pub(crate) fn take_at(t: Team, n: u32) -> Team
+    ensures { λ r. ⌜ r ≡ take t n ⌝ }
+{
+    place_at(t, Place::Take, n)
+}
+
+pub(crate) fn mark_at(t: Team, n: u32, p: u32) -> Team
+    ensures { λ r. ⌜ r ≡ mark t n p ⌝ }
+{
+    aim_at(place_at(t, Place::Mark, n), p)
 }
 
 // The child on a side, by the left child's number.

@@ -13,8 +13,9 @@ use Rattle.rules.specs.States.{stateOf, stolenOf}
 use Rattle.rules.specs.Table.{at, put, nextPair, grown, sumBy, stolenIn}
 use Rattle.rules.specs.WellFormed.{upTo, aloneRule, childRule, nodeRule, leftIs, pairRule, unusedRule, stageRule, wellFormed}
 use Rattle.steps.specs.Records.{freshTeam}
-use Rattle.steps.specs.Places.{searchOf, seekMoves, markMoves, takeMoves, workMoves, claimMoves, splitMoves}
-use Rattle.steps.specs.Examples.{RightRequests, RightMoves, RightOrder, RightLimits}
+use Rattle.steps.specs.declared.Program.the-variants.{Scan, Greatest}
+use Rattle.steps.specs.Places.{searchBy, seekMoves, markMoves, takeMoves, workMoves, claimMoves, splitMoves, chosen, greatestSeek, greatestMark}
+use Rattle.steps.specs.Examples.{RightRequests, RightMoves, RightSearches, RightPrograms, RightOrder, RightLimits}
 use Rattle.steps.specs.Run.{begun, stepTeam, runSteps, runTeams, stoppedTo, stoppedTeams}
 use Rattle.steps.specs.Step.{stepFrom, lentCode, stepUnless, lentStep, recordsAfter}
 
@@ -22,8 +23,15 @@ pub right-requests : RightRequests
 right-requests = refl
 
 pub right-moves : RightMoves
-unfolding searchOf seekMoves markMoves takeMoves workMoves claimMoves splitMoves
+unfolding searchBy seekMoves markMoves takeMoves workMoves claimMoves splitMoves
 right-moves = refl
+
+pub right-searches : RightSearches
+unfolding searchBy greatestSeek greatestMark chosen takeMoves workMoves splitMoves
+right-searches = refl
+
+pub right-programs : RightPrograms
+right-programs = refl
 
 pub right-order : RightOrder
 right-order l number cap rs r = (refl, refl)
@@ -39,9 +47,17 @@ small = record { start = pos 0; until = pos 1; teams = pos 1; cap = pos 1; nodes
 abbrev seven : List ℤ
 seven = pos 1 ∷ pos 1 ∷ pos 1 ∷ pos 1 ∷ pos 1 ∷ pos 1 ∷ pos 1 ∷ []
 
-ends : stoppedTeams (runTeams (pos 1) (begun small (freshTeam ∷ [])) seven) ≡ 1
-unfolding runSteps stepTeam lentStep recordsAfter lentCode stepUnless stepFrom searchOf requested answered changed view decided granted looking owning advancing batchEnd refusal kindCode ownCode advanceCode stateOf stolenOf at put nextPair grown sumBy stolenIn upTo aloneRule childRule nodeRule leftIs pairRule unusedRule stageRule sameFinds wellFormed opens opened seekMoves takeMoves workMoves claimMoves stoppedTo
+ends : stoppedTeams (runTeams (pos 1) (begun small (freshTeam Scan ∷ [])) seven) ≡ 1
+unfolding runSteps stepTeam lentStep recordsAfter lentCode stepUnless stepFrom searchBy requested answered changed view decided granted looking owning advancing batchEnd refusal kindCode ownCode advanceCode stateOf stolenOf at put nextPair grown sumBy stolenIn upTo aloneRule childRule nodeRule leftIs pairRule unusedRule stageRule sameFinds wellFormed opens opened seekMoves takeMoves workMoves claimMoves stoppedTo
 ends = refl
+
+-- by program 2: two looks, take, work, claim, work, two looks
+abbrev eight : List ℤ
+eight = pos 1 ∷ seven
+
+greatest-ends : stoppedTeams (runTeams (pos 1) (begun small (freshTeam Greatest ∷ [])) eight) ≡ 1
+unfolding runSteps stepTeam lentStep recordsAfter lentCode stepUnless stepFrom searchBy requested answered changed view decided granted looking owning advancing batchEnd refusal kindCode ownCode advanceCode stateOf stolenOf at put nextPair grown sumBy stolenIn upTo aloneRule childRule nodeRule leftIs pairRule unusedRule stageRule sameFinds wellFormed opens opened greatestSeek chosen takeMoves workMoves claimMoves stoppedTo
+greatest-ends = refl
 
 too-few : lentCode (begun small [] .ledger) (pos 1) (pos 1) [] ≡ 18
 unfolding lentCode stateOf stolenOf at sumBy stolenIn upTo aloneRule childRule nodeRule leftIs pairRule unusedRule stageRule sameFinds wellFormed opens opened

@@ -1,5 +1,5 @@
 -- A record in a run stays within its limits, so that no step of a run is refused.
-use mathlib.Core.Path.{_≡_, refl}
+use mathlib.Core.Path.{_≡_, refl, sym, subst}
 use mathlib.Core.Bool.{Bool, true, false, cond}
 use Prim.Native.Nat.{ℕ, _+_, _≤_, max}
 use native.Mathlib.Omega.{arith}
@@ -24,13 +24,28 @@ use Rattle.steps.specs.declared.Place.{Place}
 use Rattle.steps.specs.declared.Place.the-variants.{Seek, Take, Work, Claim, Mark, Split, Stopped}
 use Rattle.steps.specs.declared.Side.{Side}
 use Rattle.steps.specs.declared.Side.the-variants.{Left, Right}
+use Rattle.steps.specs.declared.Program.{Program}
+use Rattle.steps.specs.declared.Program.the-variants.{Scan, Greatest}
+use Rattle.steps.specs.declared.Memory.{Memory}
+use Rattle.steps.specs.declared.Memory.the-variants.{Nothing, Free, Held}
 use Rattle.steps.specs.declared.Team.{Team}
 use Rattle.steps.specs.Records.{childOn, sized, take, work}
-use Rattle.steps.specs.Places.{Search, scan, searchOf, again, onward, mine, stealable, takeMoves, workMoves, claimMoves, splitMoves, seekMoves, markMoves}
+use Rattle.steps.specs.Places.{Search, scan, greatest, searchBy, again, onward, mine, stealable, sighted, beats, greater, chosen, takeMoves, workMoves, claimMoves, splitMoves, seekMoves, markMoves, greatestSeek, greatestMark}
 use Rattle.steps.specs.Step.{stepFrom}
 use Rattle.steps.proofs.Runs.{step-keeps}
 use Rattle.steps.proofs.Asked.{Parent, Unsplit, by-mark, by-expand, by-look}
 use Rattle.steps.proofs.Fair.{is-child}
+
+-- a node that is remembered is in use
+pub data Known (used : ℕ) : Memory → Type 0 where
+  none : Known used Nothing
+  free : (n rest : ℕ) → 1 ≤ n → n ≤ used → Known used (Free n rest)
+  held : (n rest p : ℕ) → 1 ≤ n → n ≤ used → Known used (Held n rest p)
+
+known-more : {used more : ℕ} {m : Memory} → used ≤ more → Known used m → Known more m
+known-more h none = none
+known-more h (free n rest a b) = free n rest a (omega arith)
+known-more h (held n rest p a b) = held n rest p a (omega arith)
 
 -- what 19 asks of a record, and more of the node: at most one past those in use
 pub record Fit (cap used : ℕ) (r : Team) : Type 0 where
@@ -38,9 +53,10 @@ pub record Fit (cap used : ℕ) (r : Team) : Type 0 where
   pub high : r .node ≤ used + 1
   pub least : 1 ≤ r .size
   pub most : r .size ≤ cap
+  pub known : Known used (r .memory)
 
 pub fit-more : {cap used more : ℕ} {r : Team} → used ≤ more → Fit cap used r → Fit cap more r
-fit-more h f = record { low = f .low; high = omega arith; least = f .least; most = f .most }
+fit-more h f = record { low = f .low; high = omega arith; least = f .least; most = f .most; known = known-more h (f .known) }
 
 -- a choice keeps what both of its sides do
 either : {A : Type 0} (P : A → Type 0) (b : Bool) (x y : A) → (b ≡ true → P x) → (b ≡ false → P y) → P (cond b x y)
@@ -67,19 +83,23 @@ module _ (cap : ℕ) (l : Ledger) (w : WF l) (t : ℕ) (tl : 1 ≤ t) (th : t �
   abbrev Fits : Team → Type 0
   Fits = Fit cap (l .used)
 
-  to : (m : ℕ) (x : Team) → 1 ≤ m → m ≤ l .used + 1 → x .node ≡ m → x .size ≡ r .size → Fits x
-  to m x a b e g = record { low = omega arith; high = omega arith; least = omega (arith, f .least); most = omega (arith, f .most) }
+  remembers : (m : ℕ) (x : Team) → 1 ≤ m → m ≤ l .used + 1 → x .node ≡ m → x .size ≡ r .size → Known (l .used) (x .memory) → Fits x
+  remembers m x a b e g k =
+      record { low = omega arith; high = omega arith; least = omega (arith, f .least); most = omega (arith, f .most); known = k }
 
-  same : (x : Team) → x .node ≡ n → x .size ≡ r .size → Fits x
-  same x e g = to n x (f .low) (f .high) e g
+  to : (m : ℕ) (x : Team) → 1 ≤ m → m ≤ l .used + 1 → x .node ≡ m → x .size ≡ r .size → x .memory ≡ r .memory → Fits x
+  to m x a b e g h = remembers m x a b e g (subst (Known (l .used)) (sym h) (f .known))
+
+  same : (x : Team) → x .node ≡ n → x .size ≡ r .size → x .memory ≡ r .memory → Fits x
+  same x e g h = to n x (f .low) (f .high) e g h
 
   back : Fits (again r)
-  back = to 1 (again r) (omega arith) (omega arith) refl refl
+  back = remembers 1 (again r) (omega arith) (omega arith) refl refl none
 
   child-fit : Parent l n → (d : Side) → Fits (take r (childOn d (at l n .left)))
   child-fit p d =
       let c = is-child l w n (p .here) (p .some) d in
-      to (childOn d (at l n .left)) _ (c .low) (omega (arith, c .high)) refl refl
+      to (childOn d (at l n .left)) _ (c .low) (omega (arith, c .high)) refl refl refl
 
   fit-take : (a : Answer) → Fits (takeMoves r a)
   unfolding takeMoves
@@ -89,7 +109,7 @@ module _ (cap : ℕ) (l : Ledger) (w : WF l) (t : ℕ) (tl : 1 ≤ t) (th : t �
       (eqb (a .code) 0)
       (work (sized r 1) n)
       (again r)
-      (λ e. record { low = f .low; high = f .high; least = omega arith; most = some })
+      (λ e. record { low = f .low; high = f .high; least = omega arith; most = some; known = f .known })
       (λ e. back)
 
   fit-work : Fits (workMoves t r (requested l (look t n) .answer))
@@ -101,8 +121,8 @@ module _ (cap : ℕ) (l : Ledger) (w : WF l) (t : ℕ) (tl : 1 ≤ t) (th : t �
 
       saw : InUse l n → Fits (workMoves t r (seen (at l n)))
       saw u =
-          either Fits (mine t a) _ _ (λ e. same _ refl refl) (λ e.
-          either Fits (eqb (stateOf (at l n)) STOLEN) _ _ (λ e. same _ refl refl) (λ e.
+          either Fits (mine t a) _ _ (λ e. same _ refl refl refl) (λ e.
+          either Fits (eqb (stateOf (at l n)) STOLEN) _ _ (λ e. same _ refl refl refl) (λ e.
           either Fits (eqb (stateOf (at l n)) EXPANDED) _ _ (λ e. child-fit (parent u e) Left) (λ e. back)))
         where
           parent : InUse l n → eqb (stateOf (at l n)) EXPANDED ≡ true → Parent l n
@@ -111,8 +131,8 @@ module _ (cap : ℕ) (l : Ledger) (w : WF l) (t : ℕ) (tl : 1 ≤ t) (th : t �
   fit-claim : (a : Answer) → Fits (claimMoves cap r a)
   unfolding claimMoves
   fit-claim a =
-      either Fits (eqb (a .code) 0) _ _ (λ e. record { low = f .low; high = f .high; least = omega (arith, f .least); most = omega arith }) (λ e.
-      either Fits (eqb (a .code) 9) _ _ (λ e. same _ refl refl) (λ e. same _ refl refl))
+      either Fits (eqb (a .code) 0) _ _ (λ e. record { low = f .low; high = f .high; least = omega (arith, f .least); most = omega arith; known = f .known }) (λ e.
+      either Fits (eqb (a .code) 9) _ _ (λ e. same _ refl refl refl) (λ e. same _ refl refl refl))
 
   fit-split : Fit cap (requested l (expand t n) .ledger .used) (splitMoves r (requested l (expand t n) .answer))
   unfolding splitMoves grown put view
@@ -126,37 +146,71 @@ module _ (cap : ℕ) (l : Ledger) (w : WF l) (t : ℕ) (tl : 1 ≤ t) (th : t �
           go (yes e) = rw e (child-fit (u .told e) (r .side))
           go (no e) = rw (ne-eqb c 0 (u .some), ne-eqb c 16 e) back
 
+      wider : Known (max (l .used) (nextPair l + 1)) (r .memory)
+      wider = known-more (omega arith) (f .known)
+
       new : (d : Side) → Fit cap (max (l .used) (nextPair l + 1)) (take r (childOn d (nextPair l)))
-      new Left = record { low = omega (arith, spare l w .past); high = omega arith; least = f .least; most = f .most }
-      new Right = record { low = omega arith; high = omega arith; least = f .least; most = f .most }
+      new Left = record { low = omega (arith, spare l w .past); high = omega arith; least = f .least; most = f .most; known = wider }
+      new Right = record { low = omega arith; high = omega arith; least = f .least; most = f .most; known = wider }
 
   -- ---- program 1
 
   fit-seek : Fits (seekMoves t r (requested l (look t n) .answer))
   unfolding seekMoves
-  fit-seek = by-look l w t n tl th (λ (u : Answered). Fits (seekMoves t r (u .answer))) saw (λ none. same _ refl refl)
+  fit-seek = by-look l w t n tl th (λ (u : Answered). Fits (seekMoves t r (u .answer))) saw (λ none. same _ refl refl refl)
     where
       a : Answer
       a = seen (at l n)
 
       saw : InUse l n → Fits (seekMoves t r (seen (at l n)))
       saw u =
-          either Fits (eqb (stateOf (at l n)) AVAILABLE) _ _ (λ e. same _ refl refl) (λ e.
-          either Fits (stealable t a) _ _ (λ e. same _ refl refl) (λ e.
-          either Fits (eqb (stateOf (at l n)) STOLEN) _ _ (λ e. same _ refl refl) (λ e. next u)))
+          either Fits (eqb (stateOf (at l n)) AVAILABLE) _ _ (λ e. same _ refl refl refl) (λ e.
+          either Fits (stealable t a) _ _ (λ e. same _ refl refl refl) (λ e.
+          either Fits (eqb (stateOf (at l n)) STOLEN) _ _ (λ e. same _ refl refl refl) (λ e. next u)))
         where
           next : InUse l n → Fits (onward r)
-          next u = to (n + 1) _ (omega arith) (omega (arith, u .high)) refl refl
+          next u = to (n + 1) _ (omega arith) (omega (arith, u .high)) refl refl refl
 
   fit-mark : Fits (markMoves r (requested l (mark t n (r .position)) .answer))
   unfolding markMoves
   fit-mark =
-      by-mark l w t n tl th (r .position) (λ (u : Answered). Fits (markMoves r (u .answer))) (λ g. same _ refl refl) (λ c ne told.
-      either Fits (eqb c 0) _ _ (λ z. same _ refl refl) (λ z.
-      either Fits (eqb c 14) _ _ (λ z. next (told (eqb-true c 14 z))) (λ z. same _ refl refl)))
+      by-mark l w t n tl th (r .position) (λ (u : Answered). Fits (markMoves r (u .answer))) (λ g. same _ refl refl refl) (λ c ne told.
+      either Fits (eqb c 0) _ _ (λ z. same _ refl refl refl) (λ z.
+      either Fits (eqb c 14) _ _ (λ z. next (told (eqb-true c 14 z))) (λ z. same _ refl refl refl)))
     where
       next : n ≤ l .used → Fits (onward r)
-      next h = to (n + 1) _ (omega arith) (omega arith) refl refl
+      next h = to (n + 1) _ (omega arith) (omega arith) refl refl refl
+
+  -- ---- program 2
+
+  -- of what is seen and what is remembered the greater is in use
+  known-greater : {old new : Memory} → Known (l .used) old → Known (l .used) new → Known (l .used) (greater old new)
+  known-greater {old} {new} k h = either (Known (l .used)) (beats new old) new old (λ e. h) (λ e. k)
+
+  known-sight : InUse l n → Known (l .used) (sighted t r (seen (at l n)))
+  known-sight u =
+      either (Known (l .used)) (eqb (stateOf (at l n)) AVAILABLE) _ _ (λ e. free n _ (u .low) (u .high)) (λ e.
+      either (Known (l .used)) (stealable t (seen (at l n))) _ _ (λ e. held n _ _ (u .low) (u .high)) (λ e. none))
+
+  fit-chosen : (m : Memory) → Known (l .used) m → Fits (chosen r m)
+  unfolding chosen
+  fit-chosen Nothing k = same _ refl refl refl
+  fit-chosen (Free _ _) (free m rest a b) = to m _ a (omega arith) refl refl refl
+  fit-chosen (Held _ _ _) (held m rest p a b) = to m _ a (omega arith) refl refl refl
+
+  fit-greatest-seek : Fits (greatestSeek t r (requested l (look t n) .answer))
+  unfolding greatestSeek
+  fit-greatest-seek =
+      by-look l w t n tl th (λ (u : Answered). Fits (greatestSeek t r (u .answer))) saw (λ none. fit-chosen (r .memory) (f .known))
+    where
+      saw : InUse l n → Fits (greatestSeek t r (seen (at l n)))
+      saw u =
+          either Fits (eqb (stateOf (at l n)) STOLEN) _ _ (λ e. same _ refl refl refl) (λ e.
+          remembers (n + 1) _ (omega arith) (omega (arith, u .high)) refl refl (known-greater (f .known) (known-sight u)))
+
+  fit-greatest-mark : (a : Answer) → Fits (greatestMark r a)
+  unfolding greatestMark
+  fit-greatest-mark a = either Fits (eqb (a .code) 0) _ _ (λ e. same _ refl refl refl) (λ e. back)
 
 -- ---- any program whose search stays within the limits, and with them every record
 
@@ -183,9 +237,17 @@ scan-roams t r =
       marks = λ cap l w tl th f some. fit-mark cap l w t tl th r f some;
     }
 
-roams : (t : ℕ) (r : Team) → Roams (searchOf r) t r
-unfolding searchOf
-roams t r = scan-roams t r
+greatest-roams : (t : ℕ) (r : Team) → Roams greatest t r
+greatest-roams t r =
+    record {
+      seeks = λ cap l w tl th f some. fit-greatest-seek cap l w t tl th r f some;
+      marks = λ cap l w tl th f some. fit-greatest-mark cap l w t tl th r f some _;
+    }
+
+roams : (g : Program) (t : ℕ) (r : Team) → Roams (searchBy g) t r
+unfolding searchBy
+roams Scan t r = scan-roams t r
+roams Greatest t r = greatest-roams t r
 
 module _ (t cap : ℕ) (some : 1 ≤ cap) (l : Ledger) (w : WF l) (tl : 1 ≤ t) (th : t ≤ l .teams) (r : Team) (f : Fit cap (l .used) r) where
   pub step-grows : (p : Place) → l .used ≤ stepFrom p t cap l r .ledger .used
@@ -193,10 +255,10 @@ module _ (t cap : ℕ) (some : 1 ≤ cap) (l : Ledger) (w : WF l) (tl : 1 ≤ t)
 
   pub step-fit : (p : Place) → Fit cap (stepFrom p t cap l r .ledger .used) (stepFrom p t cap l r .team)
   unfolding stepFrom
-  step-fit Seek = fit-more (used-grows l _ w) (roams t r .seeks cap l w tl th f some)
+  step-fit Seek = fit-more (used-grows l _ w) (roams (r .program) t r .seeks cap l w tl th f some)
   step-fit Take = fit-more (used-grows l _ w) (fit-take cap l w t tl th r f some _)
   step-fit Work = fit-more (used-grows l _ w) (fit-work cap l w t tl th r f some)
   step-fit Claim = fit-more (used-grows l _ w) (fit-claim cap l w t tl th r f some _)
-  step-fit Mark = fit-more (used-grows l _ w) (roams t r .marks cap l w tl th f some)
+  step-fit Mark = fit-more (used-grows l _ w) (roams (r .program) t r .marks cap l w tl th f some)
   step-fit Split = fit-split cap l w t tl th r f some
   step-fit Stopped = f

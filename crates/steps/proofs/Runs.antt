@@ -1,5 +1,5 @@
 -- What holds of a run of teams, step by step, whatever the cap of each step.
-use mathlib.Core.Path.{_≡_, refl, sym, ap, _∙_}
+use mathlib.Core.Path.{_≡_, refl, sym, ap, _∙_, subst}
 use mathlib.Core.Logic.{_≢_}
 use mathlib.Core.Bool.{Bool, true, false, cond}
 use mathlib.Core.List.{List, [], _∷_}
@@ -32,6 +32,7 @@ use Rattle.rules.proofs.Tree.{from-root}
 use Rattle.rules.proofs.Tests.{passed}
 use Rattle.steps.specs.declared.Place.{Place}
 use Rattle.steps.specs.declared.Place.the-variants.{Seek, Take, Work, Claim, Mark, Split, Stopped}
+use Rattle.steps.specs.declared.Program.{Program}
 use Rattle.steps.specs.declared.Team.{Team}
 use Rattle.steps.specs.declared.Stepped.{Stepped}
 use Rattle.steps.specs.Records.{freshTeam, noTeam, isStopped}
@@ -259,11 +260,11 @@ run-good [] u g = g
 run-good (d ∷ later) u g = run-good later (stepTeam (d .cap) u (d .number)) (team-good (d .cap) u (d .number) g)
 
 -- so many fresh records
-pub all-fresh : (count teams : ℕ) → teams ≤ count → FreshFor teams (replicate count freshTeam)
-all-fresh count teams high =
+pub all-fresh : (g : Program) (count teams : ℕ) → teams ≤ count → FreshFor teams (replicate count (freshTeam g))
+all-fresh g count teams high =
     record {
-      enough = omega (arith, length-replicate count freshTeam);
-      each = λ t low most. getD-replicate count (t - 1) freshTeam noTeam (omega arith);
+      enough = omega (arith, length-replicate count (freshTeam g));
+      each = λ t low most. let e = getD-replicate count (t - 1) (freshTeam g) noTeam (omega arith) in rw e;
     }
 
 pub begun-good : (o : Opening) (rs : List Team) → opens o ≡ true → FreshFor (natOf (o .teams)) rs → Good (begun o rs)
@@ -272,7 +273,7 @@ begun-good o rs ok f =
       wf = opened-wf o ok;
       size = omega (arith, f .enough, opened-teams o);
       all = record { tended = λ n u. let e : n ≡ 1 = omega (arith, u .low, u .high, opened-used o) in rw e first };
-      root = λ e k p q. rw (f .each k p (omega (arith, opened-teams o))) (searching refl begins);
+      root = λ e k p q. subst Hopeful (sym (f .each k p (omega (arith, opened-teams o)))) (searching refl (begins _));
     }
   where
     first : Tended (ledgerOf o) (stages rs) 1

@@ -12,14 +12,19 @@ use Rattle.steps.specs.declared.Place.{Place}
 use Rattle.steps.specs.declared.Place.the-variants.{Seek, Take, Work, Claim, Mark, Split, Stopped}
 use Rattle.steps.specs.declared.Side.{Side}
 use Rattle.steps.specs.declared.Side.the-variants.{Left, Right}
+use Rattle.steps.specs.declared.Program.the-variants.{Scan, Greatest}
+use Rattle.steps.specs.declared.Memory.{Memory}
+use Rattle.steps.specs.declared.Memory.the-variants.{Nothing, Free, Held}
 use Rattle.steps.specs.declared.Team.{Team}
 use Rattle.rules.specs.Asks.{own, advance, mark, expand, look}
-use Rattle.steps.specs.Places.{nothing}
+use Rattle.steps.specs.Records.{programOf, makeTeam}
+use Rattle.steps.specs.Places.{noRequest}
 use Rattle.steps.specs.Step.{unfit, lentTests, soloTests}
 use Rattle.steps.specs.Turn.{asks, moves}
 
+-- of program 1, which remembers nothing
 abbrev team : Place → ℕ → ℤ → Side → ℕ → Team
-team p n at d k = record { place = p; node = n; position = at; side = d; size = k }
+team p n at d k = makeTeam p n at d k Scan Nothing
 
 -- ---- what a team asks
 
@@ -30,7 +35,7 @@ at p = team p 3 (pos 7) Left 2
 abbrev pub RightRequests : Type 0
 RightRequests =
     map (λ p. asks 1 (at p)) (Seek ∷ Take ∷ Work ∷ Claim ∷ Mark ∷ Split ∷ Stopped ∷ [])
-    ≡ look 1 3 ∷ own 1 3 ∷ look 1 3 ∷ advance 1 3 (pos 7) 2 ∷ mark 1 3 (pos 7) ∷ expand 1 3 ∷ nothing ∷ []
+    ≡ look 1 3 ∷ own 1 3 ∷ look 1 3 ∷ advance 1 3 (pos 7) 2 ∷ mark 1 3 (pos 7) ∷ expand 1 3 ∷ noRequest ∷ []
 
 -- ---- where the answer sends it
 
@@ -101,6 +106,56 @@ examples =
 
 abbrev pub RightMoves : Type 0
 RightMoves = map (λ (m : Move). moves 1 4 (m .before) (m .hears)) examples ≡ map (λ (m : Move). m .after) examples
+
+-- ---- the same by program 2
+
+-- a team at a node, which read position 7 before, with what it remembers
+abbrev greatest : Place → ℕ → ℤ → Side → ℕ → Memory → Team
+greatest p n at d k m = makeTeam p n at d k Greatest m
+
+abbrev with : Place → ℕ → Memory → Team
+with p n m = greatest p n (pos 7) Left 2 m
+
+-- 11 sheets are left of what it sees
+abbrev pub searches : List Move
+searches =
+    -- it remembers what it sees first, and after that only what is more
+    (with Seek 3 Nothing hears sees AVAILABLE 0 then with Seek 4 (Free 3 11))
+    ∷ (with Seek 3 Nothing hears sees OWNED 2 then with Seek 4 (Held 3 11 9))
+    ∷ (with Seek 3 Nothing hears sees OWNED 1 then with Seek 4 Nothing)
+    ∷ (with Seek 3 Nothing hears sees COMPLETED 2 then with Seek 4 Nothing)
+    ∷ (with Seek 3 Nothing hears sees EXPANDED 2 then with Seek 4 Nothing)
+    ∷ (with Seek 3 (Free 2 10) hears sees AVAILABLE 0 then with Seek 4 (Free 3 11))
+    ∷ (with Seek 3 (Held 2 10 5) hears sees AVAILABLE 0 then with Seek 4 (Free 3 11))
+    ∷ (with Seek 3 (Free 2 10) hears sees OWNED 2 then with Seek 4 (Held 3 11 9))
+    -- on equal rests the lower number stays
+    ∷ (with Seek 3 (Free 2 11) hears sees AVAILABLE 0 then with Seek 4 (Free 2 11))
+    ∷ (with Seek 3 (Held 2 11 5) hears sees OWNED 2 then with Seek 4 (Held 2 11 5))
+    ∷ (with Seek 3 (Held 2 12 5) hears sees AVAILABLE 0 then with Seek 4 (Held 2 12 5))
+    ∷ (with Seek 3 (Free 2 5) hears sees COMPLETED 2 then with Seek 4 (Free 2 5))
+    -- a STOLEN node is split at once, whatever it remembers
+    ∷ (with Seek 3 (Free 2 5) hears sees STOLEN 2 then greatest Split 3 (pos 7) Right 2 (Free 2 5))
+    -- and past the last node it goes to what it remembers, as it was seen
+    ∷ (with Seek 3 (Free 2 5) hears code 4 then with Take 2 (Free 2 5))
+    ∷ (with Seek 3 (Held 2 5 8) hears code 4 then greatest Mark 2 (pos 8) Left 2 (Held 2 5 8))
+    ∷ (with Seek 3 Nothing hears code 4 then with Stopped 3 Nothing)
+    -- refused, it starts again and has forgotten
+    ∷ (with Take 2 (Free 2 5) hears code 5 then with Seek 1 Nothing)
+    ∷ (with Mark 2 (Held 2 5 8) hears code 10 then with Seek 1 Nothing)
+    ∷ (with Mark 2 (Held 2 5 8) hears code 14 then with Seek 1 Nothing)
+    ∷ (with Mark 2 (Held 2 5 8) hears granted then greatest Split 2 (pos 7) Right 2 (Held 2 5 8))
+    -- the other places are shared
+    ∷ (with Take 2 (Free 2 5) hears granted then greatest Work 2 (pos 7) Left 1 (Free 2 5))
+    ∷ (with Work 3 (Free 2 5) hears sees COMPLETED 1 then with Seek 1 Nothing)
+    ∷ (with Split 3 (Free 2 5) hears code 15 then with Seek 1 Nothing)
+    ∷ []
+
+abbrev pub RightSearches : Type 0
+RightSearches = map (λ (m : Move). moves 1 4 (m .before) (m .hears)) searches ≡ map (λ (m : Move). m .after) searches
+
+-- 2 names it, and any other number is program 1
+abbrev pub RightPrograms : Type 0
+RightPrograms = map programOf (0 ∷ 1 ∷ 2 ∷ 3 ∷ []) ≡ Scan ∷ Scan ∷ Greatest ∷ Scan ∷ []
 
 -- ---- when it is refused
 

@@ -2,19 +2,15 @@
 use crate::ledgers;
 use crate::show;
 use rules::Ledger;
+use steps::Memory;
 use steps::Place;
+use steps::Program;
 use steps::Side;
 use steps::Team;
 
 // A record with a position of 2, side left and size 4, so that what a move keeps can be seen.
 fn at(place: Place, node: u32) -> Team {
-    Team {
-        place: place,
-        node: node,
-        position: 2,
-        side: Side::Left,
-        size: 4,
-    }
+    facing(place, node, Side::Left)
 }
 
 fn facing(place: Place, node: u32, side: Side) -> Team {
@@ -24,6 +20,8 @@ fn facing(place: Place, node: u32, side: Side) -> Team {
         position: 2,
         side: side,
         size: 4,
+        program: Program::Scan,
+        memory: Memory::Nothing,
     }
 }
 
@@ -34,10 +32,12 @@ fn sized(place: Place, size: u32) -> Team {
         position: 0,
         side: Side::Right,
         size: size,
+        program: Program::Scan,
+        memory: Memory::Nothing,
     }
 }
 
-fn tried(l: Ledger, team: i32, cap: i32, t: Team) {
+pub(crate) fn tried(l: Ledger, team: i32, cap: i32, t: Team) {
     show::record(t);
     show::capped(cap);
     show::words(b": ");

@@ -1,9 +1,12 @@
-// Shows teams at work: the document's schedule step by step, each line of the step rules, records at their limits, and refused steps.
+// Shows teams at work: the document's schedule step by step, each line of the step rules by program 1 and by program 2, records at their
+// limits, and refused steps.
 use rules::Ledger;
 use rules::Opening;
+use steps::Program;
 use steps::Team;
 
 mod cases;
+mod greatest;
 mod ledgers;
 mod show;
 
@@ -22,7 +25,7 @@ fn begin() -> Run {
         nodes: 7,
     });
     let l = o.ledger;
-    let t = Team::fresh();
+    let t = Team::fresh(Program::Scan);
     Run {
         ledger: l,
         records: [t; 32],
@@ -76,4 +79,5 @@ fn main() {
     cases::stopped();
     cases::limits();
     cases::refused();
+    greatest::all();
 }

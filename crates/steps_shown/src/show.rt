@@ -1,7 +1,9 @@
-// Prints records and steps: place, node, position, side and size of a record; kind and node of a step's request, and the six numbers of its answer.
+// Prints records and steps: place, node, position, side and size of a record, and by program 2 what it remembers; kind and node of a step's request, and the six numbers of its answer.
 use libc::STDOUT_FILENO;
 use rules::Answer;
+use steps::Memory;
 use steps::Place;
+use steps::Program;
 use steps::Side;
 use steps::Team;
 
@@ -49,6 +51,29 @@ pub(crate) fn record(t: Team) {
     signed(t.position);
     side(d);
     number(t.size);
+    let g = t.program;
+    let m = t.memory;
+    match g {
+        Program::Scan => {}
+        Program::Greatest => memory(m),
+    }
+}
+
+fn memory(m: Memory) {
+    match m {
+        Memory::Nothing => words(b" remembers nothing"),
+        Memory::Free(n, rest) => {
+            words(b" remembers free");
+            number(n);
+            number(rest);
+        }
+        Memory::Held(n, rest, p) => {
+            words(b" remembers held");
+            number(n);
+            number(rest);
+            number(p);
+        }
+    }
 }
 
 pub(crate) fn asked(team: i32, kind: u32, node: u32, a: Answer) {

@@ -1,6 +1,6 @@
 -- The judgement put together: what the passes found is what the definitions say.
 use mathlib.Core.Path.{_≡_, refl, sym, ap, _∙_}
-use mathlib.Core.Bool.{Bool, true, false, cond, not, true≢false}
+use mathlib.Core.Bool.{Bool, true, false, cond, not, _&&_, true≢false}
 use mathlib.Core.List.{List, _++_, map}
 use Prim.Native.Nat.{ℕ, _+_, _-_, _≤_, _<_}
 use native.Mathlib.Omega.{arith}
@@ -21,7 +21,7 @@ use Rattle.text.specs.declared.Survey.{Survey}
 use Rattle.text.specs.declared.Heading.{Heading}
 use Rattle.text_rules.specs.Marks.{Mark, marks}
 use Rattle.text_rules.specs.Lines.{headLine, fromHead, lineNumbers, afterLine, leftAfter}
-use Rattle.text_rules.specs.Judgement.{maxBytes, isHeader, ruled, granted, isGranted, given, faultFrom, openingOf, headOf, headVerdict, headerVerdict, scheduleMarks, scheduleNumbers, bodyVerdict, scheduleVerdict}
+use Rattle.text_rules.specs.Judgement.{maxBytes, isHeader, ruled, granted, isGranted, given, faultFrom, openingOf, programIn, programGood, headOf, headVerdict, headerVerdict, scheduleMarks, scheduleNumbers, bodyVerdict, scheduleVerdict}
 use Rattle.text_rules.specs.Answers.{noOpening, restPlace, filled, scheduleOf, areaOf}
 use Rattle.text_rules.proofs.Granted.{granted-first, header-granted, Granted, granted-is}
 use Rattle.text.specs.Passes.{FoundHead, FoundRow, tallyOf, FoundSurvey, refusedHeading, headingBy, FoundHeading}
@@ -50,6 +50,7 @@ refused-heading text kept later v e g =
     record {
       verdict = e;
       opening = rw g;
+      program = rw g;
       end = rw (← e, g);
       within = omega arith;
       tally = λ h. absurd (true≢false (sym h ∙ g));
@@ -61,6 +62,7 @@ record Told (text : List ℕ) (ms : List Mark) (teams : ℕ) (head : Head) (row 
   line : head .line ≡ headLine 1 ms
   count : row .count ≡ length (headOf ms)
   opening : openingOf (row .first) ≡ openingOf (headOf ms)
+  program : programIn (row .first) ≡ programIn (headOf ms)
   end : row .end ≡ length text - leftAfter (fromHead ms)
   tally : survey .tally ≡ tallyOf teams (headLine 1 ms + 1) (scheduleMarks ms)
   keeps : later ≡ filled (scheduleNumbers ms) kept
@@ -79,45 +81,49 @@ module _ (text : List ℕ) (teams : ℕ) (head : Head) (row : Row) (kept : List 
         line = f .line g;
         count = w .count ∙ ap (λ (ms : List Mark). length (lineNumbers ms)) (f .there g);
         opening = w .first ∙ ap (λ (ms : List Mark). openingOf (lineNumbers ms)) (f .there g);
+        program = w .program ∙ ap (λ (ms : List Mark). programIn (lineNumbers ms)) (f .there g);
         end = w .end ∙ ap (λ (ms : List Mark). length text - leftAfter ms) (f .there g);
         tally = s .tally (ok .1) ∙ rw (f .line g, there);
         keeps = s .keeps (ok .1) ∙ rw there;
       }
 
   -- the verdict of the straight-line tests, by what each pass found
-  pub found-verdict : length text ≤ maxBytes → (o : Opening) (good whole : Bool) (limits numbers fault v : Verdict)
+  pub found-verdict : length text ≤ maxBytes → (o : Opening) (program : ℕ) (opened named whole : Bool) (limits numbers fault v : Verdict)
       → o ≡ openingOf (row .first)
-      → good ≡ opens o
-      → limits ≡ given (not good) (ruled 20 (head .line)) granted
+      → program ≡ programIn (row .first)
+      → opened ≡ opens o
+      → named ≡ programGood (row .count) program
+      → limits ≡ given (not (opened && named)) (ruled 20 (head .line)) granted
       → whole ≡ isHeader (row .count)
       → numbers ≡ given (not whole) (ruled 24 (head .line)) limits
       → fault ≡ given (not (eqb (row .fault) 0)) (ruled (row .fault) (head .line)) (survey .fault)
       → v ≡ given (not (isGranted fault)) fault numbers
       → v ≡ headerVerdict (length text) (marks text)
   unfolding headVerdict
-  found-verdict h o good whole limits numbers fault v p d l w c e is =
+  found-verdict h o program opened named whole limits numbers fault v p q d n l w c e is =
       is
       ∙ rw
-      (short-verdict (length text) (marks text) h, e, found-fault, c, w, l, d, p)
-      (later-tests (isGranted (faultFrom 1 (marks text))) (faultFrom 1 (marks text)) _ (headVerdict (marks text)) refl (λ g. let t = all-told g in rw (t .line, t .count, t .opening)))
+      (short-verdict (length text) (marks text) h, e, found-fault, c, w, l, d, n, p, q)
+      (later-tests (isGranted (faultFrom 1 (marks text))) (faultFrom 1 (marks text)) _ (headVerdict (marks text)) refl (λ g. let t = all-told g in rw (t .line, t .count, t .opening, t .program)))
 
-  heading-by : (b : Bool) (v : Verdict) (o : Opening) → o ≡ openingOf (row .first) → teams ≡ natOf (o .teams) → v ≡ headerVerdict (length text) (marks text) → isGranted v ≡ b → FoundHeading text kept (cond b (record { verdict = v; opening = o; tally = survey .tally; end = row .end }) (refusedHeading v (length text))) later
+  heading-by : (b : Bool) (v : Verdict) (o : Opening) (program : ℕ) → o ≡ openingOf (row .first) → program ≡ programIn (row .first) → teams ≡ natOf (o .teams) → v ≡ headerVerdict (length text) (marks text) → isGranted v ≡ b → FoundHeading text kept (cond b (record { verdict = v; opening = o; program = program; tally = survey .tally; end = row .end }) (refusedHeading v (length text))) later
   unfolding restPlace
-  heading-by false v o p q e g = refused-heading text kept later v e g
-  heading-by true v o p q e g =
-      let t = all-told (header-granted (length text) (marks text) (rw (← e) g) .1) in
+  heading-by false v o program p n q e g = refused-heading text kept later v e g
+  heading-by true v o program p n q e g =
+      let t = all-told (header-granted (length text) (marks text) (rw (← e) g) .faultless) in
       let opening : o ≡ openingOf (headOf (marks text)) = p ∙ t .opening in
       record {
         verdict = e;
         opening = rw g opening;
+        program = rw g (n ∙ t .program);
         end = rw (← e, g) (t .end);
         within = r .within;
         tally = λ _. t .tally ∙ rw (q, opening);
         keeps = λ _. t .keeps;
       }
 
-  pub found-heading : (v : Verdict) (o : Opening) → o ≡ openingOf (row .first) → teams ≡ natOf (o .teams) → v ≡ headerVerdict (length text) (marks text) → FoundHeading text kept (headingBy (record { verdict = v; opening = o; tally = survey .tally; end = row .end }) (length text)) later
-  found-heading v o p q e = heading-by (isGranted v) v o p q e refl
+  pub found-heading : (v : Verdict) (o : Opening) (program : ℕ) → o ≡ openingOf (row .first) → program ≡ programIn (row .first) → teams ≡ natOf (o .teams) → v ≡ headerVerdict (length text) (marks text) → FoundHeading text kept (headingBy (record { verdict = v; opening = o; program = program; tally = survey .tally; end = row .end }) (length text)) later
+  found-heading v o program p n q e = heading-by (isGranted v) v o program p n q e refl
 
 -- ---- the schedule
 
@@ -149,14 +155,15 @@ module _ (text : List ℕ) (room : ℕ) (kept : List ℤ) (h : Heading) (later :
   pub granted-room : Granted room (length text) (marks text) → h .tally .count ≤ room
   granted-room g = rw (granted-count g) (g .fits)
 
-  pub granted-answer : Granted room (length text) (marks text) → record { code = 0; line = 0; opening = h .opening; count = h .tally .count } ≡ scheduleOf room text
+  pub granted-answer : Granted room (length text) (marks text) → record { code = 0; line = 0; opening = h .opening; program = h .program; count = h .tally .count } ≡ scheduleOf room text
   unfolding scheduleOf
   granted-answer g =
       let ok = granted-heading g in
       let opening : h .opening ≡ openingOf (headOf (marks text)) = f .opening ∙ rw ok in
-      rw (granted-is room (length text) (marks text) g, opening, f .tally ok)
+      let program : h .program ≡ programIn (headOf (marks text)) = f .program ∙ rw ok in
+      rw (granted-is room (length text) (marks text) g, opening, program, f .tally ok)
 
-pub refused-answer : (text : List ℕ) (room : ℕ) (v : Verdict) → v ≡ scheduleVerdict room (length text) (marks text) → isGranted v ≡ false → record { code = v .code; line = v .line; opening = noOpening; count = 0 } ≡ scheduleOf room text
+pub refused-answer : (text : List ℕ) (room : ℕ) (v : Verdict) → v ≡ scheduleVerdict room (length text) (marks text) → isGranted v ≡ false → record { code = v .code; line = v .line; opening = noOpening; program = 0; count = 0 } ≡ scheduleOf room text
 unfolding scheduleOf
 refused-answer text room v e g = rw (← e, g)
 

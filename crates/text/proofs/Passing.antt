@@ -17,7 +17,7 @@ use Rattle.text_rules.specs.Bytes.{isNumeral, isBlank}
 use Rattle.text_rules.specs.Marks.{Mark, lineEnd, number, wrong, marks}
 use Rattle.text_rules.specs.Digits.{maxNumber, tooLarge, numberOf}
 use Rattle.text_rules.specs.Lines.{headLine, fromHead, lineNumbers, afterLine, leftAfter, numbersOf}
-use Rattle.text_rules.specs.Judgement.{maxBytes, headerNumbers, granted, ruled, isGranted, given, faultFrom, openingOf, isTeam, strangerFrom}
+use Rattle.text_rules.specs.Judgement.{maxBytes, headerLeast, headerMost, granted, ruled, isGranted, given, faultFrom, openingOf, programIn, isTeam, strangerFrom}
 use Rattle.text_rules.specs.Answers.{filled}
 use Rattle.text_rules.specs.Demands.{scheduleRoom}
 use Rattle.text_rules.proofs.Demands.{few-numbers}
@@ -151,7 +151,7 @@ module _ (text : List ℕ) (i line : ℕ) (s : Seeking text i line) where
 
 -- the places of a header's numbers, of which none holds one yet
 abbrev pub noNumbers : List ℕ
-noNumbers = replicate headerNumbers 0
+noNumbers = replicate headerMost 0
 
 -- reading a row with the marks ms, up to i
 pub record Rowing (text : List ℕ) (ms : List Mark) (i count : ℕ) (first : List ℕ) (code : ℕ) : Type 0 where
@@ -231,7 +231,7 @@ sets-there (v ∷ vs) l k (suc j) h z =
     let inside : suc k + j < length (set l k v) = rw (length-set l k v) (omega (arith, h)) in
     rw at (sets-there vs (set l k v) (suc k) j inside (getD-set-other l k (suc k + j) v 0 (λ e. omega (arith, e)) ∙ (rw at at z)))
 
-first-of : (ns : List ℕ) (j : ℕ) → j < headerNumbers → getD noNumbers j 0 ≡ 0 → getD (sets noNumbers 0 ns) j 0 ≡ getD ns j 0
+first-of : (ns : List ℕ) (j : ℕ) → j < headerMost → getD noNumbers j 0 ≡ 0 → getD (sets noNumbers 0 ns) j 0 ≡ getD ns j 0
 first-of ns j h z =
     let at : 0 + j ≡ j = omega arith in
     rw at at (sets-there ns noNumbers 0 j (omega arith) (rw at z))
@@ -240,16 +240,19 @@ pub first-numbers : (ns : List ℕ) → openingOf (sets noNumbers 0 ns) ≡ open
 first-numbers ns =
     rw (first-of ns 0 (omega arith) refl, first-of ns 1 (omega arith) refl, first-of ns 2 (omega arith) refl, first-of ns 3 (omega arith) refl, first-of ns 4 (omega arith) refl)
 
+pub program-number : (ns : List ℕ) → programIn (sets noNumbers 0 ns) ≡ programIn ns
+program-number ns = first-of ns headerLeast (omega arith) refl
+
 module _ (text : List ℕ) (from i count : ℕ) (first : List ℕ) (code : ℕ) (r : Rowing text (marks (drop from text)) i count first code) where
   abbrev ms : List Mark
   ms = marks (drop from text)
 
   -- no number of the line is left
-  row-told : lineNumbers (marks (drop i text)) ≡ [] → (count ≡ length (lineNumbers ms)) × (openingOf first ≡ openingOf (lineNumbers ms))
+  row-told : lineNumbers (marks (drop i text)) ≡ [] → (count ≡ length (lineNumbers ms)) × (openingOf first ≡ openingOf (lineNumbers ms)) × (programIn first ≡ programIn (lineNumbers ms))
   row-told e =
       let counted : count + 0 ≡ length (lineNumbers ms) = rw e at (r .counted) in
       let noted : first ≡ sets noNumbers 0 (lineNumbers ms) = rw e at (r .noted) in
-      (omega (arith, counted), ap openingOf noted ∙ first-numbers (lineNumbers ms))
+      (omega (arith, counted), ap openingOf noted ∙ first-numbers (lineNumbers ms), ap programIn noted ∙ program-number (lineNumbers ms))
 
   pub row-line : code ≡ 0 → Says text i (lineEnd (length text - (i + 1))) (i + 1) → FoundRow text from (record { count = count; first = first; fault = 0; end = i + 1 })
   unfolding faultFrom lineNumbers afterLine leftAfter given
@@ -259,7 +262,7 @@ module _ (text : List ℕ) (from i count : ℕ) (first : List ℕ) (code : ℕ) 
       record {
         fault = λ on. rw (y .here) at (row-fault text ms i count first code r z on);
         within = y .within;
-        whole = λ _. record { count = told .0; first = told .1; end = omega (arith, left, y .within); there = rw (y .here) at (r .after) };
+        whole = λ _. record { count = told .0; first = told .1; program = told .2; end = omega (arith, left, y .within); there = rw (y .here) at (r .after) };
       }
 
   row-whole : length text ≤ i → WholeRow text from (record { count = count; first = first; fault = code; end = i })
@@ -268,7 +271,7 @@ module _ (text : List ℕ) (from i count : ℕ) (first : List ℕ) (code : ℕ) 
       let e = at-end text i false h in
       let told = row-told (rw e) in
       let left : 0 ≡ leftAfter ms = rw e at (r .left) in
-      record { count = told .0; first = told .1; end = omega (arith, left, h, r .within); there = e ∙ (rw e at (r .after)) }
+      record { count = told .0; first = told .1; program = told .2; end = omega (arith, left, h, r .within); there = e ∙ (rw e at (r .after)) }
 
   row-fault-by : (t : Bool) → eqb code 0 ≡ t → Ended (length text) i code → (on : ℕ) → found code on (faultFrom (on + 1) (marks (drop i text))) ≡ faultFrom on ms
   unfolding faultFrom

@@ -14,8 +14,8 @@ use Rattle.text.specs.declared.Survey.{Survey}
 use Rattle.text.specs.declared.Heading.{Heading}
 use Rattle.text_rules.specs.Marks.{Mark, marks}
 use Rattle.text_rules.specs.Lines.{headLine, fromHead, lineNumbers, afterLine, leftAfter, numbersOf}
-use Rattle.text_rules.specs.Judgement.{maxBytes, ruled, isGranted, given, faultFrom, openingOf, headerVerdict, scheduleMarks, scheduleNumbers, teamsOf, strangerFrom}
-use Rattle.text_rules.specs.Answers.{noOpening, opensAs, restPlace, filled}
+use Rattle.text_rules.specs.Judgement.{maxBytes, ruled, isGranted, given, faultFrom, openingOf, programIn, headerVerdict, scheduleMarks, scheduleNumbers, teamsOf, strangerFrom}
+use Rattle.text_rules.specs.Answers.{noOpening, opensAs, runsAs, restPlace, filled}
 use Rattle.text_rules.specs.Demands.{scheduleRoom}
 
 -- the place of the first number, and its line; a wrong byte before it is where the next pass begins
@@ -30,6 +30,7 @@ pub record FoundHead (text : List ℕ) (r : Head) : Type 0 where
 pub record WholeRow (text : List ℕ) (from : ℕ) (r : Row) : Type 0 where
   pub count : r .count ≡ length (lineNumbers (marks (drop from text)))
   pub first : openingOf (r .first) ≡ openingOf (lineNumbers (marks (drop from text)))
+  pub program : programIn (r .first) ≡ programIn (lineNumbers (marks (drop from text)))
   pub end : r .end ≡ length text - leftAfter (marks (drop from text))
   pub there : marks (drop (r .end) text) ≡ afterLine (marks (drop from text))
 
@@ -61,7 +62,8 @@ pub record FoundSurvey (text : List ℕ) (from on teams : ℕ) (kept : List ℤ)
   pub keeps : isGranted (r .fault) ≡ true → later ≡ filled (numbersOf (marks (drop from text))) kept
 
 abbrev pub refusedHeading : Verdict → ℕ → Heading
-refusedHeading v end = record { verdict = v; opening = noOpening; tally = record { stranger = 0; count = 0 }; end = end }
+refusedHeading v end =
+    record { verdict = v; opening = noOpening; program = 0; tally = record { stranger = 0; count = 0 }; end = end }
 
 -- what was found, where its verdict grants it
 abbrev pub headingBy : Heading → ℕ → Heading
@@ -71,6 +73,7 @@ headingBy h end = cond (isGranted (h .verdict)) h (refusedHeading (h .verdict) e
 pub record FoundHeading (text : List ℕ) (kept : List ℤ) (r : Heading) (later : List ℤ) : Type 0 where
   pub verdict : r .verdict ≡ headerVerdict (length text) (marks text)
   pub opening : r .opening ≡ opensAs (r .verdict) (marks text)
+  pub program : r .program ≡ runsAs (r .verdict) (marks text)
   pub end : r .end ≡ restPlace text
   pub within : r .end ≤ length text
   pub tally : isGranted (r .verdict) ≡ true → r .tally ≡ tallyOf (teamsOf (marks text)) (headLine 1 (marks text) + 1) (scheduleMarks (marks text))

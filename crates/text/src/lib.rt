@@ -5,7 +5,7 @@ ghost use mathlib.Core.Bool.{not, cond};
 ghost use Prim.Native.Nat.{_≤_, _<_};
 ghost use mathlib.Core.List.{_++_};
 ghost use lib.ListN.{length, set, take, drop};
-ghost use Rattle.text_rules.specs.Judgement.{maxBytes, isHeader, ruled, isGranted, given, openingOf, isTeam};
+ghost use Rattle.text_rules.specs.Judgement.{maxBytes, isHeader, ruled, isGranted, given, openingOf, programIn, programGood, isTeam};
 ghost use Rattle.text_rules.specs.Answers.{noOpening, headerOf, RestItself, scheduleOf, areaOf};
 ghost use Rattle.text_rules.specs.Demands.{scheduleRoom};
 ghost use Rattle.text.specs.Passes.{FoundHead, FoundRow, earlierOf, SurveyAsked, FoundSurvey, refusedHeading, headingBy, FoundHeading};
@@ -24,7 +24,7 @@ struct Head {
 // A line's numbers up to its end, or up to a byte with 22 or 23: how many, the first of them, that code or 0, and the place after it all.
 struct Row {
     count: usize,
-    first: [u32; Header::NUMBERS],
+    first: [u32; Header::MOST],
     fault: u32,
     end: usize,
 }
@@ -45,6 +45,7 @@ struct Survey {
 struct Heading {
     verdict: Verdict,
     opening: Opening,
+    program: u32,
     tally: Tally,
     end: usize,
 }
@@ -75,11 +76,11 @@ fn find_head(text: &[u8]) -> Head
 }
 
 // The first numbers with one more, where it is among them.
-fn noted(first: [u32; Header::NUMBERS], count: usize, value: u32) -> [u32; Header::NUMBERS]
+fn noted(first: [u32; Header::MOST], count: usize, value: u32) -> [u32; Header::MOST]
     ensures { λ r. ⌜ r ≡ set first count value ⌝ }
 {
     let mut new = first;
-    if count < Header::NUMBERS {
+    if count < Header::MOST {
         new[count] = value;
     }
     new
@@ -92,7 +93,7 @@ fn read_row(text: &[u8], from: usize) -> Row
 {
     let mut i = from;
     let mut count = 0;
-    let mut first = [0; Header::NUMBERS];
+    let mut first = [0; Header::MOST];
     let mut code = 0;
     while (i < text.len()) & (code == 0) {
         let b = text[i];
@@ -219,6 +220,20 @@ fn opening_of(row: Row) -> Opening
     }
 }
 
+// The number that names the program, 0 where there is none.
+fn program_of(row: Row) -> u32
+    ensures { λ r. ⌜ r ≡ programIn (row .first) ⌝ }
+{
+    row.first[Header::LEAST]
+}
+
+// Whether a header of so many numbers may have this program.
+fn program_good(count: usize, program: u32) -> bool
+    ensures { λ r. ⌜ r ≡ programGood count program ⌝ }
+{
+    (count <= Header::LEAST) | ((1 <= program) & (program <= Header::PROGRAMS))
+}
+
 fn no_opening() -> Opening
     ensures { λ r. ⌜ r ≡ noOpening ⌝ }
 {
@@ -238,6 +253,7 @@ fn refused(verdict: Verdict, end: usize) -> Heading
     Heading {
         verdict,
         opening,
+        program: 0,
         tally: Tally {
             stranger: 0,
             count: 0,
@@ -262,7 +278,7 @@ fn if_granted(found: Heading, end: usize) -> Heading
 fn is_header(count: usize) -> bool
     ensures { λ r. ⌜ r ≡ isHeader count ⌝ }
 {
-    count == Header::NUMBERS
+    (Header::LEAST <= count) & (count <= Header::MOST)
 }
 
 // The header's tests over the whole text, last test first, and the header where it is granted. The schedule's numbers are kept.
@@ -277,6 +293,7 @@ fn judge_header(text: &[u8], kept: &mut [i32]) -> Heading
     let head = find_head(text);
     let row = read_row(text, head.place);
     let opening = opening_of(row);
+    let program = program_of(row);
     let found = read_numbers(
         text,
         row.end,
@@ -285,7 +302,8 @@ fn judge_header(text: &[u8], kept: &mut [i32]) -> Heading
         kept,
     );
     let granted = Verdict { code: 0, line: 0 };
-    let limits = ruled_by(!opening.is_good(), 20, head.line, granted);
+    let good = opening.is_good() & program_good(row.count, program);
+    let limits = ruled_by(!good, 20, head.line, granted);
     let numbers = ruled_by(!is_header(row.count), 24, head.line, limits);
     let fault = ruled_by(row.fault != 0, row.fault, head.line, found.fault);
     let verdict = refused_or(fault, numbers);
@@ -293,6 +311,7 @@ fn judge_header(text: &[u8], kept: &mut [i32]) -> Heading
     let heading = Heading {
         verdict,
         opening,
+        program,
         tally,
         end: row.end,
     };
@@ -311,6 +330,7 @@ pub fn read_header(text: &[u8]) -> Header
         code: h.verdict.code,
         line: h.verdict.line,
         opening,
+        program: h.program,
     }
 }
 
@@ -341,6 +361,7 @@ pub fn read_schedule(text: &[u8], area: &mut [i32]) -> Schedule
             code: 0,
             line: 0,
             opening,
+            program: h.program,
             count: tally.count,
         }
     } else {
@@ -348,6 +369,7 @@ pub fn read_schedule(text: &[u8], area: &mut [i32]) -> Schedule
             code: verdict.code,
             line: verdict.line,
             opening: no_opening(),
+            program: 0,
             count: 0,
         }
     }

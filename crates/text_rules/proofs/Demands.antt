@@ -16,14 +16,14 @@ use Rattle.text_rules.specs.Bytes.{Class, LineEnd, Hash, Blank, Digit, O
 use Rattle.text_rules.specs.Marks.{Mark, lineEnd, number, wrong, inComment, startsDigit, longer, added, marksFrom, marks}
 use Rattle.text_rules.specs.Digits.{value, tooLarge, numberOf}
 use Rattle.text_rules.specs.Lines.{headLine, fromHead, afterLine, numbersOf}
-use Rattle.text_rules.specs.Judgement.{maxBytes, isGranted, given, faultFrom, headVerdict, headerVerdict, scheduleMarks, scheduleNumbers, teamsOf, isTeam, strangerFrom, bodyVerdict, scheduleVerdict}
+use Rattle.text_rules.specs.Judgement.{maxBytes, isGranted, given, faultFrom, headOf, headVerdict, headerVerdict, scheduleMarks, scheduleNumbers, teamsOf, isTeam, strangerFrom, bodyVerdict, scheduleVerdict}
 use Rattle.text_rules.specs.Answers.{headerOf, restPlace, restOf, scheduleOf, areaOf}
 use Rattle.text_rules.specs.declared.Kind.the-variants as kind
 use Rattle.text_rules.specs.Tokens.{tokenOf, tokenAt}
-use Rattle.text_rules.specs.Demands.{scheduleRoom, SameButComments, nothing, same, other, CommentsNeverMatter, RefusedChangesNothing, AllTeams, none, more, GrantedIsWithinLimits, AllExact, exact, GrantedIsExact, NeverShort, HalfIsEnough, Scans, ended, found, tokensOf, ScannerFindsTheMarks}
+use Rattle.text_rules.specs.Demands.{scheduleRoom, SameButComments, nothing, same, other, CommentsNeverMatter, RefusedChangesNothing, AllTeams, none, more, GrantedIsWithinLimits, TellsFiveFromSix, AllExact, exact, GrantedIsExact, NeverShort, HalfIsEnough, Scans, ended, found, tokensOf, ScannerFindsTheMarks}
 use Rattle.text_rules.proofs.Marks.{later, moves, at-end, passed-over}
 use Rattle.text_rules.proofs.Digits.{small-value}
-use Rattle.text_rules.proofs.Granted.{passed, header-granted, schedule-granted, granted-is}
+use Rattle.text_rules.proofs.Granted.{passed, header-granted, named, schedule-granted, granted-is}
 
 -- ---- comments never matter
 same-length : {c : Bool} {s t : List ℕ} → SameButComments c s t → length s ≡ length t
@@ -68,9 +68,9 @@ pub refused-changes-nothing : RefusedChangesNothing
 unfolding headerOf restOf restPlace scheduleOf areaOf
 refused-changes-nothing text = (
   λ r. let e = ne-eqb (headerVerdict (length text) (marks text) .code) 0 r in
-      record { opening = rw e; rest = rw e (drop-of-length-le text {i = length text} (omega arith)) },
+      record { opening = rw e; program = rw e; rest = rw e (drop-of-length-le text {i = length text} (omega arith)) },
   λ area r. let e = ne-eqb (scheduleVerdict (length area) (length text) (marks text) .code) 0 r in
-      record { opening = rw e; count = rw e; stays = rw e },
+      record { opening = rw e; program = rw e; count = rw e; stays = rw e },
 )
 
 -- ---- what is granted lies within the limits
@@ -104,12 +104,23 @@ granted-within-limits room text e =
     let ms = marks text in
     let g = schedule-granted room n ms (eq-eqb (scheduleVerdict room n ms .code) 0 e) in
     let is = granted-is room n ms g in
+    let h = header-granted n ms (g .header) in
     record {
-      opening = rw is (header-granted n ms (g .header) .2);
+      opening = rw is (h .opening);
+      program = rw is (named (headOf ms) (h .count) (h .program) .most);
       teams = rw is (all-teams (teamsOf ms) (headLine 1 ms + 1) (scheduleMarks ms) (omega arith) (g .teams));
       count = rw is;
       fits = g .fits;
     }
+
+pub tells-five-from-six : TellsFiveFromSix
+unfolding headerOf
+tells-five-from-six text e =
+    let n = length text in
+    let ms = marks text in
+    let ok = eq-eqb (headerVerdict n ms .code) 0 e in
+    let h = header-granted n ms ok in
+    rw ok (named (headOf ms) (h .count) (h .program) .counted)
 
 -- ---- what is granted is exact
 exact-number : (t : Bool) (ds : List ℕ) → tooLarge ds ≡ t → t ≡ false → signed (numberOf ds) ≡ pos (value ds)
@@ -131,7 +142,7 @@ unfolding headerOf
 granted-exact text e =
     let n = length text in
     let ms = marks text in
-    all-exact 1 ms (header-granted n ms (eq-eqb (headerVerdict n ms .code) 0 e) .1)
+    all-exact 1 ms (header-granted n ms (eq-eqb (headerVerdict n ms .code) 0 e) .faultless)
 
 -- ---- there is always room for 32,768 numbers: between two numbers stands a byte
 
@@ -237,7 +248,7 @@ body-short ms h =
 short-by : (b : Bool) (text : List ℕ) → isGranted (headerVerdict (length text) (marks text)) ≡ b → Short (given (not b) (headerVerdict (length text) (marks text)) (bodyVerdict scheduleRoom (marks text))) → ⊥
 unfolding given
 short-by true text g =
-    let h = ltb-false maxBytes (length text) (header-granted (length text) (marks text) g .0) in
+    let h = ltb-false maxBytes (length text) (header-granted (length text) (marks text) g .short) in
     body-short (marks text) (enough scheduleRoom text (omega (arith, h)))
 short-by false text g = header-short (length text) (marks text)
 

@@ -14,7 +14,7 @@ use Rattle.text_rules.specs.declared.Header.{Header}
 use Rattle.text_rules.specs.declared.Schedule.{Schedule}
 use Rattle.text_rules.specs.Marks.{Mark, marks}
 use Rattle.text_rules.specs.Lines.{fromHead, leftAfter}
-use Rattle.text_rules.specs.Judgement.{isGranted, headOf, openingOf, headerVerdict, scheduleNumbers, scheduleVerdict}
+use Rattle.text_rules.specs.Judgement.{isGranted, headOf, openingOf, programIn, headerVerdict, scheduleNumbers, scheduleVerdict}
 
 abbrev pub noOpening : Opening
 noOpening = record { start = pos 0; until = pos 0; teams = pos 0; cap = pos 0; nodes = pos 0 }
@@ -23,9 +23,13 @@ noOpening = record { start = pos 0; until = pos 0; teams = pos 0; cap = pos 0; n
 abbrev pub opensAs : Verdict → List Mark → Opening
 opensAs v ms = cond (isGranted v) (openingOf (headOf ms)) noOpening
 
+-- the program that the header names, where the text was granted; 0 is "not given"
+abbrev pub runsAs : Verdict → List Mark → ℕ
+runsAs v ms = cond (isGranted v) (programIn (headOf ms)) 0
+
 -- the answer that a verdict gives, for a text with these marks
 abbrev pub headerBy : Verdict → List Mark → Header
-headerBy v ms = record { code = v .code; line = v .line; opening = opensAs v ms }
+headerBy v ms = record { code = v .code; line = v .line; opening = opensAs v ms; program = runsAs v ms }
 
 unfoldable pub headerOf : List ℕ → Header
 headerOf text = headerBy (headerVerdict (length text) (marks text)) (marks text)
@@ -47,7 +51,13 @@ pub record RestItself (text r : RefT (List ℕ)) : Type 0 where
 
 abbrev pub scheduleBy : Verdict → List Mark → Schedule
 scheduleBy v ms =
-    record { code = v .code; line = v .line; opening = opensAs v ms; count = cond (isGranted v) (length (scheduleNumbers ms)) 0 }
+    record {
+      code = v .code;
+      line = v .line;
+      opening = opensAs v ms;
+      program = runsAs v ms;
+      count = cond (isGranted v) (length (scheduleNumbers ms)) 0;
+    }
 
 unfoldable pub scheduleOf : ℕ → List ℕ → Schedule
 scheduleOf room text = scheduleBy (scheduleVerdict room (length text) (marks text)) (marks text)

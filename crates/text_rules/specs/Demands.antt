@@ -1,6 +1,6 @@
 -- What is claimed of the readers, for every text; the proofs stand in proofs/Demands.antt.
 use mathlib.Core.Path.{_≡_}
-use mathlib.Core.Bool.{Bool, true, false}
+use mathlib.Core.Bool.{Bool, true, false, cond}
 use mathlib.Core.List.{List, [], _∷_}
 use Prim.Native.Nat.{ℕ, _*_, _≤_, _<_}
 use lib.Dec.{eqb}
@@ -8,13 +8,13 @@ use lib.IntN.{ℤ, pos}
 use lib.ListN.{length}
 use Rattle.numbers.specs.Fields.{natOf}
 use Rattle.numbers.specs.Progress.{signed}
-use Rattle.rules.specs.Limits.{opens}
+use Rattle.rules.specs.Limits.{opens, maxProgram}
 use Rattle.text_rules.specs.declared.Kind.the-variants as kind
 use Rattle.text_rules.specs.declared.Token.{Token}
 use Rattle.text_rules.specs.Bytes.{classOf}
 use Rattle.text_rules.specs.Marks.{Mark, lineEnd, number, inComment, marks}
 use Rattle.text_rules.specs.Digits.{value, numberOf}
-use Rattle.text_rules.specs.Judgement.{scheduleNumbers}
+use Rattle.text_rules.specs.Judgement.{headerLeast, headerMost, headOf, scheduleNumbers}
 use Rattle.text_rules.specs.Answers.{noOpening, headerOf, restPlace, restOf, scheduleOf, areaOf}
 use Rattle.text_rules.specs.Tokens.{tokenOf, tokenAt}
 
@@ -37,10 +37,12 @@ CommentsNeverMatter = (s t : List ℕ) → SameButComments false s t → SameAns
 -- "refused, these numbers are 0 and the area stays"; the rest is empty.
 pub record RefusedHeader (text : List ℕ) : Type 0 where
   pub opening : headerOf text .opening ≡ noOpening
+  pub program : headerOf text .program ≡ 0
   pub rest : restOf text ≡ []
 
 pub record RefusedSchedule (area : List ℤ) (text : List ℕ) : Type 0 where
   pub opening : scheduleOf (length area) text .opening ≡ noOpening
+  pub program : scheduleOf (length area) text .program ≡ 0
   pub count : scheduleOf (length area) text .count ≡ 0
   pub stays : areaOf text area ≡ area
 
@@ -55,16 +57,24 @@ pub data AllTeams (teams : ℕ) : List ℕ → Type 0 where
   none : AllTeams teams []
   more : {n : ℕ} {ns : List ℕ} → 1 ≤ n → n ≤ teams → AllTeams teams ns → AllTeams teams (n ∷ ns)
 
--- What is granted lies within the limits: the header's numbers those of an opening, the schedule's those of its teams, their count that of the
--- area.
+-- What is granted lies within the limits: the header's numbers those of an opening and of a program, the schedule's those of its teams, their
+-- count that of the area.
 pub record WithinLimits (room : ℕ) (text : List ℕ) : Type 0 where
   pub opening : opens (scheduleOf room text .opening) ≡ true
+  pub program : scheduleOf room text .program ≤ maxProgram
   pub teams : AllTeams (natOf (scheduleOf room text .opening .teams)) (scheduleNumbers (marks text))
   pub count : scheduleOf room text .count ≡ length (scheduleNumbers (marks text))
   pub fits : length (scheduleNumbers (marks text)) ≤ room
 
 abbrev pub GrantedIsWithinLimits : Type 0
 GrantedIsWithinLimits = (room : ℕ) (text : List ℕ) → scheduleOf room text .code ≡ 0 → WithinLimits room text
+
+-- The header's answer tells five numbers from six: its program is 0 exactly where there are five.
+abbrev pub TellsFiveFromSix : Type 0
+TellsFiveFromSix =
+    (text : List ℕ)
+    → headerOf text .code ≡ 0
+    → length (headOf (marks text)) ≡ cond (eqb (headerOf text .program) 0) headerLeast headerMost
 
 -- In a text that is granted each number is read as the value that its digits write.
 pub data AllExact : List Mark → Type 0 where

@@ -10,7 +10,7 @@ use Rattle.rules.specs.declared.Opening.{Opening}
 use Rattle.text_rules.specs.declared.Verdict.{Verdict}
 use Rattle.text_rules.specs.Marks.{marks}
 use Rattle.text_rules.specs.Judgement.{ruled, granted, headerVerdict, scheduleVerdict}
-use Rattle.text_rules.specs.Answers.{headerOf, restPlace, areaOf}
+use Rattle.text_rules.specs.Answers.{headerOf, restPlace, scheduleOf, areaOf}
 
 -- the bytes of a text in ASCII
 unfoldable pub bytes : String → List ℕ
@@ -54,10 +54,16 @@ judgements =
     ∷ refuses "0 5 2 4\nx 99999999999" 22 2
     -- 24 before 20, on the header's line or 0
     ∷ refuses "\n6 5 2 4\n7" 24 2
-    ∷ refuses "\n6 5 2 4 7 1" 24 2
+    ∷ refuses "\n6 5 2 4 7 3 1" 24 2
     ∷ refuses "# 0 5 2 4 7\n" 24 0
     -- 20 on the header's line, before 26
     ∷ refuses "\n\n6 5 2 4 7\n3" 20 3
+    ∷ refuses "6 5 2 4 7 1" 20 1
+    -- a sixth number other than 1 or 2 is 20 too; on the next line it is the schedule's
+    ∷ refuses "\n0 5 2 4 7 0\n3" 20 2
+    ∷ refuses "0 5 2 4 7 3" 20 1
+    ∷ refuses "0 5 2 4 7 2147483647" 20 1
+    ∷ refusesLater "0 5 2 4 7\n3" 26 2
     -- 26 on its own line, before 27
     ∷ refusesLater "0 5 2 4 7\n1 2 1\n\n0 1" 26 4
     ∷ refusesLater "0 5 2 4 7\n1 2 1\n3 1" 26 3
@@ -70,18 +76,20 @@ judgements =
 
 -- ---- texts that are read
 
--- a granted text, the header's numbers, the place of its rest, and what becomes of four 9s
+-- a granted text, the header's numbers and its program, the place of its rest, and what becomes of four 9s
 pub record Reading : Type 0 where
   pub text : String
   pub opening : Opening
+  pub program : ℕ
   pub rest : ℕ
   pub area : List ℤ
 
-abbrev pub reading : String → ℕ → List ℤ → Reading
-reading text rest area =
+abbrev pub reading : String → ℕ → ℕ → List ℤ → Reading
+reading text program rest area =
     record {
       text = text;
       opening = record { start = pos 0; until = pos 5; teams = pos 2; cap = pos 4; nodes = pos 7 };
+      program = program;
       rest = rest;
       area = area;
     }
@@ -89,10 +97,14 @@ reading text rest area =
 abbrev pub readings : List Reading
 readings =
     -- the rest begins after the header's line end, and the area keeps its tail
-    reading "0 5 2 4 7 # 9\n1 2" 14 (area 1 2 9 9)
-    ∷ reading "0 5 2 4 7" 9 nines
+    reading "0 5 2 4 7 # 9\n1 2" 0 14 (area 1 2 9 9)
+    ∷ reading "0 5 2 4 7" 0 9 nines
     -- space, tab and CR are blanks
-    ∷ reading "\n0\t5 2\r4 7\r\n1\t2\r2 2" 12 (area 1 2 2 2)
+    ∷ reading "\n0\t5 2\r4 7\r\n1\t2\r2 2" 0 12 (area 1 2 2 2)
+    -- a sixth number names the program; without one it is 0
+    ∷ reading "0 5 2 4 7 1" 1 11 nines
+    ∷ reading "0 5 2 4 7 2\n1 2" 2 12 (area 1 2 9 9)
+    ∷ reading "0 5 2 4 7\n2" 0 10 (area 2 9 9 9)
     ∷ []
 
 -- ---- the readers answer to each text what stands beside it
@@ -103,6 +115,7 @@ OnAll xs f g = map f xs ≡ map g xs
 pub record WorkedExamples : Type 0 where
   pub headers : OnAll judgements (λ j. headerVerdict (j .size) (marks (bytes (j .text)))) (λ j. j .header)
   pub schedules : OnAll judgements (λ j. scheduleVerdict (length nines) (j .size) (marks (bytes (j .text)))) (λ j. j .schedule)
-  pub openings : OnAll readings (λ r. headerOf (bytes (r .text))) (λ r. record { code = 0; line = 0; opening = r .opening })
+  pub openings : OnAll readings (λ r. headerOf (bytes (r .text))) (λ r. record { code = 0; line = 0; opening = r .opening; program = r .program })
+  pub programs : OnAll readings (λ r. scheduleOf (length nines) (bytes (r .text)) .program) (λ r. r .program)
   pub rests : OnAll readings (λ r. restPlace (bytes (r .text))) (λ r. r .rest)
   pub areas : OnAll readings (λ r. areaOf (bytes (r .text)) nines) (λ r. r .area)

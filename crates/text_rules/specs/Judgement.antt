@@ -2,14 +2,14 @@
 -- the first 26; 27." "LINE is 0 for 21, for 27 and for 24 without any number, the header's line for other 24 and 20, and else the line of
 -- that byte or number."
 use Prim.Native.Nat.{ℕ, _+_}
-use mathlib.Core.Bool.{Bool, cond, not, _&&_}
+use mathlib.Core.Bool.{Bool, cond, not, _&&_, _||_}
 use mathlib.Core.List.{List, [], _∷_}
 use lib.Dec.{eqb, leb, ltb}
 use lib.ListN.{length, getD}
 use Rattle.numbers.specs.Progress.{signed}
 use Rattle.numbers.specs.Fields.{natOf}
 use Rattle.rules.specs.declared.Opening.{Opening}
-use Rattle.rules.specs.Limits.{opens}
+use Rattle.rules.specs.Limits.{opens, maxProgram}
 use Rattle.text_rules.specs.declared.Verdict.{Verdict}
 use Rattle.text_rules.specs.Marks.{Mark, lineEnd, number, wrong}
 use Rattle.text_rules.specs.Digits.{tooLarge, numberOf}
@@ -19,13 +19,16 @@ use Rattle.text_rules.specs.Lines.{headLine, fromHead, lineNumbers, afte
 abbrev pub maxBytes : ℕ
 maxBytes = 65535
 
--- how many numbers a header has: start, until, teams, cap, nodes
-abbrev pub headerNumbers : ℕ
-headerNumbers = 5
+-- the fewest and the most numbers of a header: start, until, teams, cap, nodes; and by W6 the program
+abbrev pub headerLeast : ℕ
+headerLeast = 5
 
--- "exactly five"
+abbrev pub headerMost : ℕ
+headerMost = 6
+
+-- "five or six numbers"
 abbrev pub isHeader : ℕ → Bool
-isHeader count = eqb count headerNumbers
+isHeader count = leb headerLeast count && leb count headerMost
 
 abbrev pub ruled : ℕ → ℕ → Verdict
 ruled code line = record { code = code; line = line }
@@ -58,15 +61,30 @@ openingOf ns =
       nodes = signed (getD ns 4 0);
     }
 
+-- the number after those of an opening, which names the program; 0 where there is none
+abbrev pub programIn : List ℕ → ℕ
+programIn ns = getD ns headerLeast 0
+
+abbrev pub isProgram : ℕ → Bool
+isProgram n = leb 1 n && leb n maxProgram
+
+-- A sixth number is a program's. A written 0 is no program, though 0 also stands for none: so the count is asked first.
+abbrev pub programGood : ℕ → ℕ → Bool
+programGood count program = leb count headerLeast || isProgram program
+
+-- the header's numbers are within their limits
+abbrev pub headGood : List ℕ → Bool
+headGood ns = opens (openingOf ns) && programGood (length ns) (programIn ns)
+
 -- the numbers of the first line with a number
 abbrev pub headOf : List Mark → List ℕ
 headOf ms = lineNumbers (fromHead ms)
 
--- 24: "first line with a number has not exactly five, or no such line"; 20: "opening values outside limits"
+-- 24: "first line with a number has not" five or six, "or no such line"; 20: "opening values outside limits", or "a sixth other than 1 or 2"
 unfoldable pub headVerdict : List Mark → Verdict
 headVerdict ms =
     given (not (isHeader (length (headOf ms)))) (ruled 24 (headLine 1 ms))
-    (given (not (opens (openingOf (headOf ms)))) (ruled 20 (headLine 1 ms))
+    (given (not (headGood (headOf ms))) (ruled 20 (headLine 1 ms))
     granted)
 
 -- the tests of the header, for a text of n bytes with these marks: "21 to 24 and 20, over the whole text"

@@ -22,16 +22,19 @@ pub struct Verdict {
     pub line: u32,
 }
 
+// The program is 0 where the header names none: five numbers, or a refusal.
 pub struct Header {
     pub code: u32,
     pub line: u32,
     pub opening: Opening,
+    pub program: u32,
 }
 
 pub struct Schedule {
     pub code: u32,
     pub line: u32,
     pub opening: Opening,
+    pub program: u32,
     pub count: usize,
 }
 
@@ -52,6 +55,10 @@ impl Schedule {
 impl Header {
     // The most bytes of a text.
     pub const BYTES: usize = 65535;
-    // How many numbers a header has.
-    pub const NUMBERS: usize = 5;
+    // The fewest numbers of a header: those of an opening.
+    pub const LEAST: usize = 5;
+    // The most numbers of a header: the program's is the last.
+    pub const MOST: usize = 6;
+    // The last program's number.
+    pub const PROGRAMS: u32 = 2;
 }

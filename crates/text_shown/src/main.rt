@@ -36,6 +36,8 @@ fn show(name: &[u8], text: &[u8]) {
     word(b" of");
     let o = h.opening;
     opening(o);
+    word(b" program");
+    number(h.program as u64);
     let rest = text::rest(text);
     word(b", rest");
     number(rest.len() as u64);
@@ -47,6 +49,8 @@ fn show(name: &[u8], text: &[u8]) {
     word(b" of");
     let p = s.opening;
     opening(p);
+    word(b" program");
+    number(s.program as u64);
     word(b", count");
     number(s.count as u64);
     word(b", area");
@@ -90,6 +94,16 @@ fn granted_numbers() {
     show(b"all of the area", b"0 5 2 4 7\n1 2 1 2");
 }
 
+// Headers that name the program, and one whose sixth number stands on the next line.
+fn granted_programs() {
+    show(b"program 1", b"0 5 2 4 7 1\n1 2\n");
+    show(b"program 2", b"0 5 2 4 7 2\n1 2\n");
+    show(b"program 2, leading zeros", b"0 5 2 4 7 0000000002");
+    show(b"program 2, a comment", b"0 5 2 4 7 2#3\n1");
+    show(b"a sixth number on the next line", b"0 5 2 4 7\n2\n");
+    show(b"a sixth number in a comment", b"0 5 2 4 7 # 2\n1");
+}
+
 // Opening values outside limits.
 fn refused_limits() {
     show(b"20, until below start", b"6 5 2 4 7\n1");
@@ -98,6 +112,15 @@ fn refused_limits() {
     show(b"20, cap 4097", b"0 5 2 4097 7");
     show(b"20, no nodes", b"0 5 2 4 0");
     show(b"20, nodes 1024", b"0 5 2 4 1024");
+}
+
+// A sixth number that is no program's.
+fn refused_programs() {
+    show(b"20, program 0", b"0 5 2 4 7 0\n1");
+    show(b"20 on line 2, program 3", b"#\n0 5 2 4 7 3\n1");
+    show(b"20, program 2147483647", b"0 5 2 4 7 2147483647");
+    show(b"20, until below start, program 1", b"6 5 2 4 7 1");
+    show(b"23, a sixth number 2147483648", b"0 5 2 4 7 2147483648");
 }
 
 // Bytes that have no place in a text.
@@ -122,10 +145,10 @@ fn refused_numbers() {
     show(b"23 before the x", b"0 5 2 4 7\n99999999999x");
 }
 
-// A header that has not five numbers, or is not there.
+// A header that has neither five nor six numbers, or is not there.
 fn refused_headers() {
     show(b"24, four numbers", b"\n0 5 2 4\n7\n");
-    show(b"24, six numbers", b"0 5 2 4 7 1\n");
+    show(b"24, seven numbers", b"0 5 2 4 7 1 1\n");
     show(b"24, one number", b"# 0 5 2 4 7\n\n1");
     show(b"24, an empty text", b"");
     show(b"24, comments alone", b"# 0 5 2 4 7\n#\n# 1");
@@ -136,6 +159,7 @@ fn refused_headers() {
 fn refused_schedules() {
     show(b"26, 0", b"0 5 2 4 7\n1\n0");
     show(b"26, 3 of 2 teams", b"0 5 2 4 7\n1 2\n\n1 3 0");
+    show(b"26, 3 of 2 teams, program 2", b"0 5 2 4 7 2\n3");
     show(b"27", b"0 5 2 4 7\n1 2 1 2 1\n");
 }
 
@@ -156,9 +180,11 @@ fn faults_first() {
 // Two refusals in one text: 24, then 20, then 26, then 27.
 fn headers_first() {
     show(b"24 before 20", b"6 5 2 4\n");
+    show(b"24 before 20, seven numbers", b"0 5 2 4 7 3 1\n");
     show(b"24 before 26", b"0 5 2 4\n9");
     show(b"24 before 27", b"0 5 2 4\n1 1 1 1 1");
     show(b"20 before 26", b"6 5 2 4 7\n3");
+    show(b"20 before 26, program 3", b"0 5 2 4 7 3\n3");
     show(b"20 before 27", b"6 5 2 4 7\n1 1 1 1 1");
     show(b"26 before 27", b"0 5 2 4 7\n1 1 1 1 1 3");
 }
@@ -203,7 +229,9 @@ fn longest_refused() {
 fn main() {
     granted();
     granted_numbers();
+    granted_programs();
     refused_limits();
+    refused_programs();
     refused_bytes();
     refused_numbers();
     refused_headers();

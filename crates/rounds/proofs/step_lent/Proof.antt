@@ -83,7 +83,11 @@ abbrev stayed : Stays (step′.ended .signature .params) (step′.ended .kept)
 stayed = (stay-none (λ _. L.the-row) yes, (stay-none (λ _. i32) yes, (stay-none (λ _. i32) yes, (stay-slice (0 ∷ []) tt (plain (λ _. T.the-row)), tt))))
 
 -- the place of a record fits
-place-fits : {i n : ℕ} → n * 20 < 2 ^ 63 → i < n → i * 20 < 2 ^ 64
+-- the bytes of a record
+abbrev bytes : ℕ
+bytes = 40
+
+place-fits : {i n : ℕ} → n * bytes < 2 ^ 63 → i < n → i * bytes < 2 ^ 64
 place-fits room within = omega arith
 
 module _ {M : Type 1} (𝓤 : URA M) (H : Heap 𝓤) (A : Atoms 𝓤) (mem : Memory → SProp 𝓤) (run : Routine → Fun 𝓤) where
@@ -222,10 +226,10 @@ module _ {M : Type 1} (𝓤 : URA M) (H : Heap 𝓤) (A : Atoms 𝓤) (W : Given
         -- granted
         (λ small.
         let within : i < n = nleb→lt n i small in
-        let fits20 : i * 20 < 2 ^ 64 = place-fits (room .1) within in
-        assigns ! (bin ! (load ! (from ! (stop !)) (look ! 12 refl)) (lit ! tt) (record { fits = fits20 })) (from ! (stop !)) (init ! 6 refl (tt, record { fits = fits20 })) $
+        let fits-bytes : i * bytes < 2 ^ 64 = place-fits (room .1) within in
+        assigns ! (bin ! (load ! (from ! (stop !)) (look ! 12 refl)) (lit ! tt) (record { fits = fits-bytes })) (from ! (stop !)) (init ! 6 refl (tt, record { fits = fits-bytes })) $
         assigns ! (bin ! (load ! (from ! (fld ! refl (stop !))) (look-in ! 16 (sub ! 0 refl (whole !)))) (load ! (from ! (stop !)) (look ! 6 refl)) tt) (from ! (stop !)) (init ! 4 refl (tt, tt)) $
-        rewrite ! 4 (λ (p : ℕ). ‵ (fat fullShare tyPtr l₁₀ 0 (vptr b p))) (sym (place-is 20 o i)) refl $
+        rewrite ! 4 (λ (p : ℕ). ‵ (fat fullShare tyPtr l₁₀ 0 (vptr b p))) (sym (place-is bytes o i)) refl $
         -- the borrow is opened: [obs; the borrow; the token; …; the slice's fact; the locals from 5], and one record is taken out
         move ! (27 ∷ []) $ fsplit ! $ move ! (1 ∷ []) $ fsplit ! $ move ! (29 ∷ []) $ split ! $ move ! (2 ∷ 3 ∷ 0 ∷ []) $
         opens-slice ! tt T.the-row ys b o $ elem-out ! T.the-row (Is T.the-row) (shows 𝓤 H A T.the-row) (LL.vals T.the-type T′.the-laws) (LL.tells T.the-type T′.the-laws) fullShare ys i noTeam b o within (λ is-t. move ! (1 ∷ []) $ drop ! $
@@ -240,9 +244,9 @@ module _ {M : Type 1} (𝓤 : URA M) (H : Heap 𝓤) (A : Atoms 𝓤) (W : Given
         rewrite ! 17 (λ (us : List Val). ‵ (fat fullShare P′.mir l₇ 0 (only us))) (LL.tells P.the-type P′.the-laws r _ is₆) refl $
         let parts = LL.owed P.the-type P′.the-laws r _ is₆ in
         -- the record is stored, and the answer
-        assigns ! (bin ! (load ! (from ! (stop !)) (look ! 19 refl)) (lit ! tt) (record { fits = fits20 })) (from ! (stop !)) (store ! 13 refl (tt, record { fits = fits20 })) $
+        assigns ! (bin ! (load ! (from ! (stop !)) (look ! 19 refl)) (lit ! tt) (record { fits = fits-bytes })) (from ! (stop !)) (store ! 13 refl (tt, record { fits = fits-bytes })) $
         assigns ! (bin ! (load ! (from ! (fld ! refl (stop !))) (look-in ! 23 (sub ! 0 refl (whole !)))) (load ! (from ! (stop !)) (look ! 13 refl)) tt) (from ! (stop !)) (init ! 7 refl (tt, tt)) $
-        rewrite ! 7 (λ (p : ℕ). ‵ (fat fullShare tyPtr l₁₂ 0 (vptr b p))) (sym (place-is 20 o i)) refl $
+        rewrite ! 7 (λ (p : ℕ). ‵ (fat fullShare tyPtr l₁₂ 0 (vptr b p))) (sym (place-is bytes o i)) refl $
         assigns ! (of-opd ! (load ! (from ! (fld ! refl (stop !))) (look-in ! 17 (sub ! 1 refl (whole !))))) (from ! (hop ! (look ! 7 refl) (stop !))) (store-raw ! 0 refl (LL.lawful T.the-type T′.the-laws 𝓤 H A W .typed (r .team) _ (parts .1 .0) .0)) $
         assigns ! (of-opd ! (load ! (from ! (fld ! refl (stop !))) (look-in ! 17 (sub ! 0 refl (whole !))))) (from ! (stop !)) (init ! 31 refl (LL.lawful R.the-type R′.the-laws 𝓤 H A W .typed (r .round) _ (parts .0) .0)) $
         owned ! T.the-row (Is T.the-row) (LL.makes T.the-type T′.the-plain 𝓤 H A) (r .team) _ (parts .1 .0) $ move ! (1 ∷ 0 ∷ []) $ elem-put ! T.the-row fullShare ys i (r .team) (tv (r .team) ∷ []) b o within $

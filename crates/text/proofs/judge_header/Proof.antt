@@ -16,8 +16,11 @@ use Rattle.text.proofs.judge_header.Tie as tie
 abbrev Passed : Type 0
 Passed = tie.After-read-numbers
 
+abbrev named : Passed → tie.After-program-of
+named c = c .before .before .before .before .before
+
 abbrev opened : Passed → tie.After-opening-of
-opened c = c .before .before .before .before .before
+opened c = named c .before
 
 abbrev rowed : Passed → tie.After-read-row
 rowed c = opened c .before
@@ -37,16 +40,18 @@ abbrev Tested : Type 0
 Tested = tie.After-refused-or
 
 abbrev passed : Tested → Passed
-passed c = c .before .before .before .before .before .before .before .before
+passed c = c .before .before .before .before .before .before .before .before .before
 
 verdict : (c : Tested) → c .refused-or .result ≡ headerVerdict (length (text (passed c))) (marks (text (passed c)))
 verdict c =
     let p = passed c in
     let head = headed p .find-head in
     let row = rowed p .read-row in
-    found-verdict (text p) _ (head .result) (row .result) _ (p .read-numbers .result) _ (head .ensures) (row .ensures) (p .read-numbers .ensures) (headed p .before .if1 .left) (opened p .opening-of .result) _ _ _ _ _ _
+    found-verdict (text p) _ (head .result) (row .result) _ (p .read-numbers .result) _ (head .ensures) (row .ensures) (p .read-numbers .ensures) (headed p .before .if1 .left) (opened p .opening-of .result) (named p .program-of .result) _ _ _ _ _ _ _
     (opened p .opening-of .ensures)
-    (c .before .before .before .before .before .before .is-good .ensures)
+    (named p .program-of .ensures)
+    (c .before .before .before .before .before .before .before .is-good .ensures)
+    (c .before .before .before .before .before .before .program-good .ensures)
     (c .before .before .before .before .before .ruled-by .ensures)
     (c .before .before .before .before .is-header .ensures)
     (c .before .before .before .ruled-by2 .ensures)
@@ -70,6 +75,9 @@ read-row-requires c κs = search needs
 opening-of-requires : tie.Need-opening-of-requires
 opening-of-requires c κs = search needs
 
+program-of-requires : tie.Need-program-of-requires
+program-of-requires c κs = search needs
+
 add-read-numbers : tie.Need-add-read-numbers
 add-read-numbers c = search needs
 
@@ -81,6 +89,9 @@ read-numbers-requires c κs = search needs
 
 is-good-requires : tie.Need-is-good-requires
 is-good-requires c κs = search needs
+
+program-good-requires : tie.Need-program-good-requires
+program-good-requires c κs = search needs
 
 ruled-by-requires : tie.Need-ruled-by-requires
 ruled-by-requires c κs = search needs
@@ -106,10 +117,10 @@ returns-2 c =
     let p = passed v in
     rw
     (c .if-granted .ensures)
-    (found-heading (text p) (p .before .before .natural .result) (headed p .find-head .result) (rowed p .read-row .result) _ (p .read-numbers .result) _ (headed p .find-head .ensures) (rowed p .read-row .ensures) (p .read-numbers .ensures) (v .refused-or .result) (opened p .opening-of .result) (opened p .opening-of .ensures) (teams p) (verdict v))
+    (found-heading (text p) (p .before .before .natural .result) (headed p .find-head .result) (rowed p .read-row .result) _ (p .read-numbers .result) _ (headed p .find-head .ensures) (rowed p .read-row .ensures) (p .read-numbers .ensures) (v .refused-or .result) (opened p .opening-of .result) (named p .program-of .result) (opened p .opening-of .ensures) (named p .program-of .ensures) (teams p) (verdict v))
 
 same-length : tie.Need-same-length
-same-length c = search needs
+same-length c = passed (c .before .before) .read-numbers .kept .1 .1 .1 .1 .0
 
 pub judge-header-spec : {M : Type 1} → statement M
 judge-header-spec =
@@ -120,10 +131,12 @@ judge-header-spec =
     find-head-requires
     read-row-requires
     opening-of-requires
+    program-of-requires
     add-read-numbers
     natural-requires
     read-numbers-requires
     is-good-requires
+    program-good-requires
     ruled-by-requires
     is-header-requires
     ruled-by-requires-2

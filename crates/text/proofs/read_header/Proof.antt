@@ -17,7 +17,7 @@ returns : tie.Need-returns
 unfolding headerOf
 returns c =
     let h = c .before .before .judge-header .ensures in
-    rw (h .opening, h .verdict)
+    rw (h .opening, h .program, h .verdict)
 
 pub read-header-spec : {M : Type 1} → statement M
 read-header-spec = tie.close (tie.spec no-numbers-requires slice-aggregate-judge-header judge-header-requires returns)

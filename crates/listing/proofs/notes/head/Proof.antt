@@ -1,8 +1,7 @@
 -- The header's numbers are the fields of the opening.
 use borrow.Author.Needs.{needs}
 use Rattle.numbers.proofs.Signed.{held}
-use Rattle.line_rules.specs.Line.{spaced, whole}
-use Rattle.lines.proofs.Added.{added-put}
+use Rattle.listing.proofs.Writing.{open-text}
 use Rattle.listing.proofs.notes.head.Statement.{statement}
 use Rattle.listing.proofs.notes.head.Tie as tie
 
@@ -36,19 +35,22 @@ natural-requires-5 c κs = search needs
 cast-nodes : tie.Need-cast-nodes
 cast-nodes c = search needs
 
-add-open-requires : tie.Need-add-open-requires
-add-open-requires c κs = search needs
+open-by-requires : tie.Need-open-by-requires
+open-by-requires c κs =
+    let s = c .before .before .before .before .before .before .before .before .before .before .before .before in
+    let o = s .args .o in
+    let f = c .before .before .before .before .before .before .before .before .before .before .struct-told .given in
+    rw (c .before .before .before .before .before .before .before .before .before .natural .ensures, c .before .before .before .before .before .before .before .natural2 .ensures, c .before .before .before .before .before .natural3 .ensures, c .before .before .before .natural4 .ensures, c .before .natural5 .ensures, held _ (record { sfits = f .0 .1 }), held _ (record { sfits = f .1 .0 .1 }), held _ (record { sfits = f .1 .1 .0 .1 }), held _ (record { sfits = f .1 .1 .1 .0 .1 }), held _ (record { sfits = f .1 .1 .1 .1 .0 .1 }), open-text (o .start) (o .until) (o .teams) (o .cap) (o .nodes) (s .args .program)) (s .pre)
 
 same-length : tie.Need-same-length
 same-length c = search needs
 
 returns : tie.Need-returns
-unfolding whole spaced
 returns c =
     let s = c .before .before .before .before .before .before .before .before .before .before .before .before .before .before .before in
+    let o = s .args .o in
     let f = c .before .before .before .before .before .before .before .before .before .before .before .before .before .struct-told .given in
-    let a = rw (c .before .before .before .before .before .before .before .before .before .before .before .before .natural .ensures, c .before .before .before .before .before .before .before .before .before .before .natural2 .ensures, c .before .before .before .before .before .before .before .before .natural3 .ensures, c .before .before .before .before .before .before .natural4 .ensures, c .before .before .before .before .natural5 .ensures, held _ (record { sfits = f .0 .1 }), held _ (record { sfits = f .1 .0 .1 }), held _ (record { sfits = f .1 .1 .0 .1 }), held _ (record { sfits = f .1 .1 .1 .0 .1 }), held _ (record { sfits = f .1 .1 .1 .1 .0 .1 })) at (c .before .before .add-open .ensures) in
-    added-put (s .pre) (a .0) (a .1)
+    rw (c .before .before .before .before .before .before .before .before .before .before .before .before .natural .ensures, c .before .before .before .before .before .before .before .before .before .before .natural2 .ensures, c .before .before .before .before .before .before .before .before .natural3 .ensures, c .before .before .before .before .before .before .natural4 .ensures, c .before .before .before .before .natural5 .ensures, held _ (record { sfits = f .0 .1 }), held _ (record { sfits = f .1 .0 .1 }), held _ (record { sfits = f .1 .1 .0 .1 }), held _ (record { sfits = f .1 .1 .1 .0 .1 }), held _ (record { sfits = f .1 .1 .1 .1 .0 .1 }), open-text (o .start) (o .until) (o .teams) (o .cap) (o .nodes) (s .args .program)) at (c .before .before .open-by .ensures)
 
 pub head-spec : {M : Type 1} → statement M
 head-spec =
@@ -64,6 +66,6 @@ head-spec =
     cast-cap
     natural-requires-5
     cast-nodes
-    add-open-requires
+    open-by-requires
     same-length
     returns)

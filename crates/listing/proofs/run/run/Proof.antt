@@ -28,7 +28,7 @@ use Rattle.listing.proofs.run.run.Statement.{statement}
 use Rattle.listing.proofs.run.run.Tie as tie
 
 abbrev Inv-loop : tie.InvT-loop
-Inv-loop schedule count out₀ cap book₀ teams₀ stolen₀ end₀ i₀ out book teams stolen end i =
+Inv-loop schedule count program out₀ cap book₀ teams₀ stolen₀ end₀ i₀ out book teams stolen end i =
     (i ≤ count)
     × (length out ≡ length out₀)
     × (stolen ≡ stolenIn book)
@@ -36,7 +36,7 @@ Inv-loop schedule count out₀ cap book₀ teams₀ stolen₀ end₀ i₀ out bo
     × Put out₀ end₀ (bytesOf (notes (pos cap) (runWith book₀ teams₀) (take i schedule))) end out
 
 abbrev μ-loop : tie.MeasureT-loop
-μ-loop schedule count out₀ cap book₀ teams₀ stolen₀ end₀ i₀ out book teams stolen end i = count - i
+μ-loop schedule count program out₀ cap book₀ teams₀ stolen₀ end₀ i₀ out book teams stolen end i = count - i
 
 -- ---- before the loop
 
@@ -52,14 +52,16 @@ capped c = c .before .before .before .natural .result
 abbrev first : Ready-here → Run
 first c = runWith (c .before .before .«open» .result .ledger) (c .fresh-teams .result)
 
-begins : (c : Ready-here) → Begun (started c .args .o) (capped c) (first c)
+begins : (c : Ready-here) → Begun (started c .args .o) (started c .args .program) (capped c) (first c)
 begins c =
     begun-with
     (started c .args .o)
+    (started c .args .program)
     (capped c)
     (c .before .before .«open» .result)
     (c .fresh-teams .result)
     (started c .pre .0 .opened)
+    (started c .pre .0 .known)
     (rw (held _ (record { sfits = c .before .before .before .before .struct-told .given .1 .1 .1 .0 .1 })) at (c .before .before .before .natural .ensures))
     (c .before .before .«open» .ensures)
     (c .fresh-teams .ensures)
@@ -73,12 +75,12 @@ ready c = c .before .before .before .before
 
 headed : (c : Headed-here)
     → let s = started (ready c) in
-    Put (s .args .out .now) 0 (text (headLine (s .args .o))) (c .before .before .head .result) (c .before .before .head .last .0)
+    Put (s .args .out .now) 0 (text (headLine (s .args .o) (s .args .program))) (c .before .before .head .result) (c .before .before .head .last .0)
 headed c = c .before .before .head .ensures
 
 -- ---- in the loop
 
-abbrev begun : (c : tie.At-loop Inv-loop μ-loop) → Begun (started (ready (c .before)) .args .o) (capped (ready (c .before))) (first (ready (c .before)))
+abbrev begun : (c : tie.At-loop Inv-loop μ-loop) → Begun (started (ready (c .before)) .args .o) (started (ready (c .before)) .args .program) (capped (ready (c .before))) (first (ready (c .before)))
 begun c = begins (ready (c .before))
 
 stands : (c : tie.At-loop Inv-loop μ-loop) → Here (started (ready (c .before)) .args .o) (capped (ready (c .before))) (c .loop .book) (c .loop .teams)
@@ -248,7 +250,7 @@ loop-holds : tie.Need-loop-holds Inv-loop μ-loop
 unfolding runSteps notes bytesOf
 loop-holds c =
     let r = ready c in
-    (omega arith, refl, none-stolen (started r .args .o) (capped r) (r .before .before .«open» .result .ledger) (r .fresh-teams .result) (begins r), refl, put-nothing _ _)
+    (omega arith, refl, none-stolen (started r .args .o) (started r .args .program) (capped r) (r .before .before .«open» .result .ledger) (r .fresh-teams .result) (begins r), refl, put-nothing _ _)
 
 mul-number : tie.Need-mul-number Inv-loop μ-loop
 mul-number c = search needs
