@@ -21,20 +21,26 @@ pub record SameRange (l k : Ledger) : Type 0 where
   pub start : k .start ≡ l .start
   pub until : k .until ≡ l .until
   pub teams : k .teams ≡ l .teams
+  pub room : k .room ≡ l .room
 
 becomes-range : {l k : Ledger} {n : ℕ} → Becomes l n k → SameRange l k
 unfolding put grown
-becomes-range same = record { start = refl; until = refl; teams = refl }
-becomes-range (stored y u h) = record { start = refl; until = refl; teams = refl }
-becomes-range (forked u f) = record { start = refl; until = refl; teams = refl }
+becomes-range same = record { start = refl; until = refl; teams = refl; room = refl }
+becomes-range (stored y u h) = record { start = refl; until = refl; teams = refl; room = refl }
+becomes-range (forked u f) = record { start = refl; until = refl; teams = refl; room = refl }
 
 pub run-range : (l : Ledger) (rs : List Request) → WF l → SameRange l (afterAll l rs)
 unfolding afterAll
-run-range l [] w = record { start = refl; until = refl; teams = refl }
+run-range l [] w = record { start = refl; until = refl; teams = refl; room = refl }
 run-range l (r ∷ rs) w =
     let one : SameRange l (requested l r .ledger) = rw (requested-wf l r w) (becomes-range (becomes-of l r w)) in
     let all = run-range (requested l r .ledger) rs (requested-good l r w) in
-    record { start = all .start ∙ one .start; until = all .until ∙ one .until; teams = all .teams ∙ one .teams }
+    record {
+      start = all .start ∙ one .start;
+      until = all .until ∙ one .until;
+      teams = all .teams ∙ one .teams;
+      room = all .room ∙ one .room;
+    }
 
 pub after-append : (l : Ledger) (rs qs : List Request) → afterAll l (rs ++ qs) ≡ afterAll (afterAll l rs) qs
 unfolding afterAll

@@ -26,7 +26,7 @@ abbrev pub inUse : Ledger → Bool
 inUse l = numbersRule l && (rootRange l && upTo (nodeRule l) (l .used) && upTo (pairRule l) (l .used) && roomRule l)
 
 -- after the nodes in use there are k slots, all 0
-unused : (l : Ledger) (k n : ℕ) → drop (l .used) (l .nodes) ≡ replicate k blank → l .used < n → at l n ≡ blank
+pub unused : (l : Ledger) (k n : ℕ) → drop (l .used) (l .nodes) ≡ replicate k blank → l .used < n → at l n ≡ blank
 unfolding at
 unused l k n e h =
     let i : l .used + (n - 1 - l .used) ≡ n - 1 = omega arith in

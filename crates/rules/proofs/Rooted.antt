@@ -71,11 +71,11 @@ module _ (l : Ledger) (w : WF l) where
   none-past (fork {n = n} u some e x y) m h = omega (arith, same-none n m (omega (arith, u .high)), none-past x m h, none-past y m h)
 
   -- the parent of a pair
-  record Parent (c : ℕ) : Type 0 where
-    node : ℕ
-    used : InUse l node
-    is : at l node .left ≡ c
-    only : (n : ℕ) → InUse l n → at l n .left ≡ c → n ≡ node
+  pub record Parent (c : ℕ) : Type 0 where
+    pub node : ℕ
+    pub used : InUse l node
+    pub is : at l node .left ≡ c
+    pub only : (n : ℕ) → InUse l n → at l n .left ≡ c → n ≡ node
 
   -- a pair stands where its parent stands
   module _ (c : ℕ) (some-c : 0 < c) (even : c % 2 ≡ 0) (parent : Parent c) where
@@ -114,7 +114,7 @@ module _ (l : Ledger) (w : WF l) where
               right = omega (arith, a .right, b .right, none, same-none d (c + 1) (omega (arith, even-d)), same-none (d + 1) (c + 1) (omega arith));
             }
 
-  parent-of : (c : ℕ) → InUse l c → c % 2 ≡ 0 → Parent c
+  pub parent-of : (c : ℕ) → InUse l c → c % 2 ≡ 0 → Parent c
   parent-of c u e =
       record { node = slot + 1; used = used; is = is; only = λ n v f. only n v f (ℕ-discrete n (slot + 1)) }
     where

@@ -19,11 +19,11 @@ use Rattle.rules.proofs.States.{going-on}
 -- ---- other nodes in the children's place
 
 -- a childless node's report does not see them
-childless-join : (x a b c d : Node) → x .left ≡ 0 → joinedOf x a b ≡ joinedOf x c d
+pub childless-join : (x a b c d : Node) → x .left ≡ 0 → joinedOf x a b ≡ joinedOf x c d
 unfolding joinedOf
 childless-join x a b c d e = rw e
 
-childless-ready : (x a b c d : Node) → x .left ≡ 0 → unready x a b ≡ unready x c d
+pub childless-ready : (x a b c d : Node) → x .left ≡ 0 → unready x a b ≡ unready x c d
 unfolding unready
 childless-ready x a b c d e = rw e
 
