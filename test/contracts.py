@@ -23,7 +23,7 @@ class Function:
     def __init__(self, crate, name, header):
         self.crate, self.name, self.last = crate, crate + '::' + name, name.split('::')[-1]
         self.asks = re.search(r'^\s*requires\b', header, re.M) is not None
-        self.says = re.findall(r'ensures\s*\{\s*λ\s*(\S+)\.\s*⌜(.*?)⌝\s*\}', header, re.S)
+        self.says = re.findall(r'ensures(?:\s+\w+)?\s*\{\s*λ\s*(\S+)\.\s*⌜(.*?)⌝\s*\}', header, re.S)
 
     def has_condition(self):
         """Whether some part of the contract holds under a condition only. A fact beside an equation for the result takes nothing from it."""

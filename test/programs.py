@@ -1,6 +1,7 @@
+#!/usr/bin/env python3
 """Plays the same uneven class by program 1 and by program 2, and prints README's table of nodes used and steps made.
 
-    python3 test/programs.py SHEETS [WORD...]
+    test/programs.py SHEETS [WORD...]
 
 SHEETS is the program, and the words go in front of it. A class has a fixed seed: each team has a speed of its own, from 1 to 8, and
 the schedule draws a team by its speed, again and again. So the quick teams step eight times as often as the slow ones. The steps are

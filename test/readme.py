@@ -2,7 +2,8 @@
 
     python3 test/readme.py
 
-The example schedule gives the listing that stands below it; each command that runs `sheets` on an example gives the stored output; each
+The example schedule gives the listing that stands below it; each command that runs `sheets` on an example gives the stored output;
+the table of the two programs is what its script prints; each
 script, folder and file that is named is there, and each page that is linked. Exit status 1 if something is not so.
 """
 
@@ -57,6 +58,9 @@ def faults(page):
                     yield '%s does not give %s.out' % (command, example.group(1))
     if examples == 0:
         yield 'it shows no command that runs an example'
+    table = run('python3 -B test/programs.py target/bin/sheets $(test/runner.sh)')
+    if table.returncode != 0 or any(line not in page for line in table.stdout.splitlines()):
+        yield 'its table of the two programs is not that of test/programs.py'
     for script in sorted(set(re.findall(r'(?<![\w/])' + SCRIPTS + r'(?=[\s`])', page))):
         if not os.access(script, os.X_OK):
             yield '%s is no script that can be run' % script

@@ -52,7 +52,7 @@ upTo-same p q (suc k) h =
     ap₂ _&&_ (upTo-same p q k (λ n a b. h n a (omega arith))) (h (suc k) (omega arith) (omega arith))
 
 -- a childless node's report does not see the children
-childless-stage : (x a b c d : Node) → x .left ≡ 0 → stageRule x a b ≡ stageRule x c d
+pub childless-stage : (x a b c d : Node) → x .left ≡ 0 → stageRule x a b ≡ stageRule x c d
 unfolding stageRule joinedOf unready
 childless-stage x a b c d e = rw (eq-eqb (x .left) 0 e)
 

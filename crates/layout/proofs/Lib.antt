@@ -1,0 +1,9 @@
+pub mod ByHand
+pub mod Words
+pub mod Writing
+pub mod Fours
+pub mod Leaves
+pub mod Fits
+pub mod Whole
+pub mod Slots
+pub mod Stored

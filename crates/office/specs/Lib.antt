@@ -1,0 +1,3 @@
+-- The three calls on bytes.
+pub mod Calls
+pub mod Demands

@@ -1,0 +1,2 @@
+-- Where a change stores.
+pub mod Changes

@@ -1,0 +1,2 @@
+-- What a request tells.
+pub mod Answers
