@@ -1,4 +1,6 @@
 // The results of reports: what may be reported, and how they are joined.
+#![tactic(auto)]
+
 ghost use Rattle.std.specs.Prelude.{◌≡◌, [], ◌∷◌};
 ghost use Rattle.rules.specs.Joining.{none, first_of, last_of, join_all, reportable, passing, same_finds, is_none};
 ghost use Rattle.finds.specs.Held.{held_join};

@@ -1,4 +1,6 @@
 // Well formed: the rules over the table, group by group. Each test is total: a ledger handed in may hold any numbers.
+#![tactic(auto)]
+
 ghost use Rattle.std.specs.Prelude.{◌≡◌, ℕ, ◌+◌, ◌≤◌, ◌<◌, get_or};
 ghost use Rattle.rules.specs.Limits.{max_nodes};
 ghost use Rattle.rules.specs.Table.{sum_by, stolen_in};

@@ -1,4 +1,6 @@
 // Numbers, results and nodes in an area of bytes: read one at a time, and written one at a time.
+#![tactic(auto)]
+
 ghost use Rattle.std.specs.Prelude.{◌≡◌, ◌+◌, ◌≤◌, ◌<◌, length};
 ghost use Rattle.rules.specs.Nodes.{PREPARED, PUSHED};
 ghost use Rattle.layout.specs.Sizes.{area_size, slot_place, own_place, joined_place, stage_place, owner_place, progress_place, left_place};

@@ -1,4 +1,6 @@
 // The ledger: opening, the requests and the unclaimed count, each exactly as the definitions of `rules` say.
+#![tactic(auto)]
+
 ghost use Rattle.std.specs.Prelude.{◌≡◌};
 ghost use Rattle.rules.specs.Opening.{opening};
 ghost use Rattle.rules.specs.Requests.{requested};

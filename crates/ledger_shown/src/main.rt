@@ -1,5 +1,7 @@
 // Shows the ledger at work, a line for each call, in the order of document 01: openings, grants, refusals, ledgers that are not well formed,
 // the twelve examples, the largest table, and the table of moves.
+#![tactic(auto)]
+
 mod ask;
 mod broken;
 mod grant;

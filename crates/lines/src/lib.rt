@@ -1,4 +1,6 @@
 // The line writer: each line of the listing, with its line end, in an area that the caller lends.
+#![tactic(auto)]
+
 ghost use Rattle.std.specs.Prelude.{◌≡◌, cond, [], ◌∷◌, ◌+◌, ◌≤◌, ◌<◌, leb, eqb, pos, length};
 ghost use Rattle.numbers.specs.Fields.{nat_of};
 ghost use Rattle.line_rules.specs.Decimal.{decimal};

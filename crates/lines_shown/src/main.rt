@@ -1,5 +1,7 @@
 // Shows the line writer at work. Each call lends an area of 44 dots from place `at` on, and prints the code, the length
 // and the whole area afterwards.
+#![tactic(auto)]
+
 use libc::STDOUT_FILENO;
 use line_rules::Written;
 

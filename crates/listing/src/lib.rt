@@ -1,4 +1,6 @@
 // The listing of a text, written into an area that the caller lends: the text is judged, and its run is carried out in place.
+#![tactic(auto)]
+
 ghost use Rattle.std.specs.Prelude.{◌≡◌, ◌≤◌, length};
 ghost use Rattle.text_rules.specs.Answers.{area_of};
 ghost use Rattle.line_rules.specs.Written.{at_start};

@@ -1,4 +1,6 @@
 // One node: what it is, and each way to make one.
+#![tactic(auto)]
+
 ghost use Rattle.std.specs.Prelude.{◌≡◌};
 ghost use Rattle.rules.specs.Nodes.{blank, owned, moved, parted, reported, position_of, left_over, marked, unowned, childless, middle, left_part};
 ghost use Rattle.rules.specs.States.{completed, state_of, stolen_of, ended, is_pushed, unready};

@@ -159,4 +159,4 @@ same_bits (negsuc m) (negsuc n) f g = mirrored m n (half f) (half g)
 
 -- a signed field of a struct, by what the struct's rule tells of it
 pub told : (z : ℤ) → mag z < 2 ^ hbits w32 → to_z w32 (of_z w32 z) ≡ z
-told z h = to_z-of_z (record { sfits = h })
+told z h = to_z-of_z {w = w32} (record { sfits = h })

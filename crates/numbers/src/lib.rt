@@ -1,4 +1,6 @@
 // Signed and unsigned numbers as document 01 reads them: the only functions that compute with signed numbers.
+#![tactic(auto)]
+
 ghost use Rattle.std.specs.Prelude.{◌≡◌, cond, ◌-◌, min};
 ghost use Rattle.numbers.specs.Progress.{negative, position, mark, signed};
 ghost use Rattle.numbers.specs.Fields.{is_nat, within, same_number, nat_of};

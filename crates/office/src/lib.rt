@@ -1,5 +1,7 @@
 // The ledger on bytes, for a program in C: three calls, each exactly as the definitions of specs/ say, on every input. What a request decides
 // is `requests::decide`, over the view that is read off the bytes. No call keeps anything of its own.
+#![tactic(auto)]
+
 ghost use Rattle.std.specs.Prelude.{◌≡◌, pos, length};
 ghost use Rattle.rules.specs.Asks.{request};
 ghost use Rattle.office_forms.specs.Codes.{formed_code};

@@ -1,5 +1,7 @@
 // 37 and well formed over the bytes of an area, in place: one node is read at a time, and no slot past the area's own room. The rules of a
 // node are those of `nodes::formed`. The ledger's numbers are tested first, so that no other test scans further than they allow.
+#![tactic(auto)]
+
 ghost use Rattle.std.specs.Prelude.{◌≡◌, ◌+◌, ◌/◌, ◌%◌, ◌≤◌, ◌<◌, min, length, take};
 ghost use Rattle.rules.specs.Limits.{max_nodes};
 ghost use Rattle.rules.specs.States.{stolen_of};

@@ -1,4 +1,6 @@
 // Writes what a change moves, and nothing else.
+#![tactic(auto)]
+
 ghost use Rattle.std.specs.Prelude.{◌≡◌};
 ghost use Rattle.rules.specs.Requests.{changed};
 ghost use Rattle.layout.specs.Areas.{decoded, over};

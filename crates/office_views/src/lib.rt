@@ -1,4 +1,6 @@
 // What a request sees of the ledger that an area stands for, what it answers, and the unclaimed count.
+#![tactic(auto)]
+
 ghost use Rattle.std.specs.Prelude.{◌≡◌, ◌+◌, ◌≤◌, length};
 ghost use Rattle.rules.specs.Count.{unclaimed};
 ghost use Rattle.rules.specs.Requests.{decided, view, node_in};

@@ -1,4 +1,6 @@
 // Shows the listing of small ledgers: the document's schedule after each of its steps, and a few more.
+#![tactic(auto)]
+
 use crate::lesson::Run;
 use sheet_order::{Piece, Pieces};
 

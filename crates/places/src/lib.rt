@@ -1,5 +1,7 @@
 // The seven places: what a team asks at each, and where the answer sends it. Where the answers to a look and to a mark send it is its
 // program: the scan's stands here, the other's in `greatest`.
+#![tactic(auto)]
+
 ghost use Rattle.std.specs.Prelude.{◌≡◌, cond, eqb};
 ghost use Rattle.steps.specs.Records.{claim, mark, is_stopped};
 ghost use Rattle.numbers.specs.Progress.{signed};

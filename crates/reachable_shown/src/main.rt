@@ -1,5 +1,7 @@
 // Shows which ledgers are real: for each of some small ledgers its numbers, the history that it has, each request with the code that the public
 // call gives, and the numbers that come out.
+#![tactic(auto)]
+
 mod ask;
 mod book;
 mod calls;

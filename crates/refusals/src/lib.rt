@@ -1,4 +1,6 @@
 // The refusals: each request's tests in the order of document 01's table. The last test is written first, since each line gives what the later ones leave.
+#![tactic(auto)]
+
 ghost use Rattle.std.specs.Prelude.{◌≡◌};
 ghost use Rattle.numbers.specs.Fields.{within, is_nat, same_number};
 ghost use Rattle.rules.specs.Asks.{last_kind};

@@ -1,5 +1,7 @@
 // Shows reports and pushes at work, a line for each call: every code and the order of each list of tests, what is granted, empty nodes, a
 // report that survives a split, a tree of seven nodes joined, and ledgers whose reports are not well formed.
+#![tactic(auto)]
+
 mod ask;
 mod codes;
 mod formed;

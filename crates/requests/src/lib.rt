@@ -1,4 +1,6 @@
 // What a request decides of the one node it names: its answer, and what it does to the node.
+#![tactic(auto)]
+
 ghost use Rattle.std.specs.Prelude.{◌≡◌};
 ghost use Rattle.rules.specs.Requests.{refused, refusing, ranged, split, seen, outcome, owning, batch_end, advancing, marking, expanding, looking, finds_in, reporting, pushing, granted, decided};
 

@@ -1,4 +1,6 @@
 // A step over the table of team records that the caller lends.
+#![tactic(auto)]
+
 ghost use Rattle.std.specs.Prelude.{◌≡◌};
 ghost use Rattle.rounds.specs.Lent.{slot_in, refused_round, outside_code, apart_step, lent_round, lent_records, table_step};
 

@@ -141,7 +141,7 @@ keeps_state {l} {r} w (pushes q f) i =
     unfold state_of in
     (rw (at_same l (node_in r) (pushed (at l (node_in r)) _) q.node.low (in_table l w (node_in r) (in_use l r q))))
 
-pub others : {l k : Ledger} {n : ℕ} → WF l → Becomes l n k → (m : ℕ) → InUse l m → m ≢ n → at k m ≡ at l m
+pub others : {l : Ledger} {n : ℕ} {k : Ledger} → WF l → Becomes l n k → (m : ℕ) → InUse l m → m ≢ n → at k m ≡ at l m
 others w same m u ne = refl
 others {l} {n = n} w (put-there y v h) m u ne = at_other l n y v.low m u.low ne
 others {l} {n = n} w (forked v f) m u ne = stays l w n v f m u ne

@@ -1,4 +1,6 @@
 // The ledger's types and their limits. Document 01's rules over them are the definitions of specs/; its demands are theorems of this crate.
+#![tactic(auto)]
+
 ghost use Rattle.std.specs.Prelude.{◌≡◌};
 ghost use Rattle.rules.specs.Asks.{request};
 ghost use Rattle.rules.specs.Limits.{opens};
@@ -132,6 +134,7 @@ impl Opening {
     pub const NODES: usize = 1023;
 
     // Whether the numbers are within an opening's limits.
+    #[tactic(auto, unfolding(crate::specs::Limits::opens))]
     pub fn is_good(self) -> bool
         ensures { result ≡ opens self }
     {

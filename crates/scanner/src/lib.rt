@@ -1,4 +1,6 @@
 // "A small scanner holds the text and its place in it." Its two functions are thin: the work is `tokens::token_at`, on the slice and the number.
+#![tactic(auto)]
+
 ghost use Rattle.std.specs.Prelude.{◌≡◌};
 ghost use Rattle.scanner.specs.Scanning.{at_start, found, past};
 

@@ -1,5 +1,7 @@
 // The scanner at work: what it finds in each text, one token after the other, each with the place past it. A scanner is made of what is left of
 // the text and asked for one token, since a program that keeps a scanner over a loop would be one long proof by hand.
+#![tactic(auto)]
+
 ghost use Rattle.std.specs.Prelude.{◌≡◌};
 ghost use Rattle.scanner_shown.specs.First.{found_in};
 

@@ -1,4 +1,6 @@
 // The listing of a ledger's root, computed for small examples: who has which sheets, in the order in which the rules list them.
+#![tactic(auto)]
+
 ghost use Rattle.std.specs.Prelude.{◌≡◌, cond, ◌∷◌, [], ◌<◌, ◌≤◌, eqb, leb, replicate};
 ghost use Rattle.laws.specs.Listed.{listed};
 ghost use Rattle.sheet_order.specs.Row.{most, no_piece, empty, with_piece, with_all, told};

@@ -1,6 +1,8 @@
 // `sheets`: a schedule as text from standard input, its listing to standard output. No contract can say what is read or written: the
 // listing is `listing::list`, and this program only moves its bytes. Where a read fails nothing is written; where a read or a write fails,
 // a line on standard error says so.
+#![tactic(auto)]
+
 ghost use Rattle.std.specs.Prelude.{◌≡◌, ◌*◌, ◌≤◌, ◌<◌, length};
 ghost use Rattle.io.specs.Counts.{IsPrefixLen};
 ghost use Rattle.text_rules.specs.Demands.{schedule_room};

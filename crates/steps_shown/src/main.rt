@@ -1,5 +1,7 @@
 // Shows teams at work: the document's schedule step by step, each line of the step rules by program 1 and by program 2, records at their
 // limits, and refused steps.
+#![tactic(auto)]
+
 use rules::{Ledger, Opening};
 use steps::{Program, Team};
 

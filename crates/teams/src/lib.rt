@@ -1,4 +1,6 @@
 // One team's step, with its record by value: exactly as the definitions of `steps` say.
+#![tactic(auto)]
+
 ghost use Rattle.std.specs.Prelude.{◌≡◌};
 ghost use Rattle.rules.specs.Tests.{first};
 ghost use Rattle.steps.specs.Step.{unfit, later_tests, unmoved, solo_step};

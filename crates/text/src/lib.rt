@@ -1,5 +1,7 @@
 // The text that drives a run: its judgement, its header and its schedule. The text is read once: what the schedule says is kept aside until
 // the whole text is judged, for a refused text leaves the caller's area as it was.
+#![tactic(auto)]
+
 ghost use Rattle.std.specs.Prelude.{◌≡◌, not, cond, ◌≤◌, ◌<◌, ◌++◌, length, set, take, drop};
 ghost use Rattle.text_rules.specs.Judgement.{max_bytes, is_header, ruled, is_granted, given, opening_of, program_in, program_good, is_team};
 ghost use Rattle.text_rules.specs.Answers.{no_opening, header_of, RestItself, schedule_of, area_of};

@@ -1,5 +1,7 @@
 // The schedule's text: the types of its tokens and its readers' answers, and their limits. Document 01's rules over them are the
 // definitions of specs/; what is claimed of the readers are theorems of this crate.
+#![tactic(auto)]
+
 use rules::Opening;
 
 #[derive(Drop)]

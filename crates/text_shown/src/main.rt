@@ -1,5 +1,7 @@
 // The readers at work: for each text its name, the header's answer, how long the rest is, the schedule's answer, and the area of four
 // numbers, which held 9s, after it.
+#![tactic(auto)]
+
 ghost use Rattle.std.specs.Prelude.{◌≡◌, ◌≤◌, length};
 
 use libc::STDOUT_FILENO;

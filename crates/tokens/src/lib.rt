@@ -1,4 +1,6 @@
 // What stands at a place of the text, found byte by byte: how far a comment goes, a number, the token that comes next.
+#![tactic(auto)]
+
 ghost use Rattle.std.specs.Prelude.{◌≡◌, true, ◌≤◌};
 ghost use Rattle.text_rules.specs.Bytes.{is_numeral, is_blank};
 ghost use Rattle.text_rules.specs.Tokens.{token_at};
