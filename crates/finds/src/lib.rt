@@ -13,7 +13,7 @@ const LARGEST: u32 = 4294967295;
 const LIMIT: u64 = LARGEST as u64;
 
 // A joined result whose count is not yet known to fit 32 bits.
-#[derive(Drop)]
+#[derive(Clone, Copy)]
 struct Wide {
     count: u64,
     first: u32,

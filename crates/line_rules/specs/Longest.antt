@@ -16,8 +16,8 @@ pub record Limit : Type 0 where
   pub field : ℤ
   pub high : ℕ
 
-infix 5 ◌upTo◌
-abbrev pub ◌upTo◌ : ℤ → ℕ → Limit
+infix 5 ◌up_to◌
+abbrev pub ◌up_to◌ : ℤ → ℕ → Limit
 z up_to n = record { field = z; high = n }
 
 abbrev pub limits : Line → List Limit

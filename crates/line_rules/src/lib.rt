@@ -2,7 +2,7 @@
 #![tactic(auto)]
 
 // 0 and the line's length in bytes, or the code of a refusal and 0.
-#[derive(Drop)]
+#[derive(Clone, Copy)]
 pub struct Written {
     pub code: u32,
     pub length: usize,

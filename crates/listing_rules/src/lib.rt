@@ -2,7 +2,7 @@
 #![tactic(auto)]
 
 // 0 and the listing's length in bytes, or 28 and 0 where the area is too short for it.
-#[derive(Drop)]
+#[derive(Clone, Copy)]
 pub struct Listed {
     pub code: u32,
     pub length: usize,

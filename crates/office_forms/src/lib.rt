@@ -118,7 +118,7 @@ fn blanks_ok(bytes: &[u8], teams: u32, room: u32, used: u32) -> bool
 }
 
 // Whether the table passes, and how many of the nodes in use are STOLEN.
-#[derive(Drop)]
+#[derive(Clone, Copy)]
 struct Walked {
     ok: bool,
     stolen: u32,
@@ -175,7 +175,7 @@ fn too_short(bytes: &[u8]) -> bool
 }
 
 // What the tests say of an area: 37, or 1, or 0 with the count of STOLEN nodes, which the walk has met anyhow.
-#[derive(Drop)]
+#[derive(Clone, Copy)]
 pub struct Judged {
     pub code: u32,
     pub stolen: u32,

@@ -12,7 +12,7 @@ pub(crate) const MARK: i32 = Request::MARK as i32;
 
 pub(crate) const SPLIT: i32 = Request::EXPAND as i32;
 
-#[derive(Drop)]
+#[derive(Clone, Copy)]
 pub(crate) struct Lesson {
     pub(crate) ledger: Ledger,
     pub(crate) granted: Pieces,
@@ -89,7 +89,7 @@ pub(crate) fn ask(
 }
 
 // A lesson whose teams follow the team program, each by its record.
-#[derive(Drop)]
+#[derive(Clone, Copy)]
 pub(crate) struct Run {
     lesson: Lesson,
     records: [Team; Team::RECORDS],

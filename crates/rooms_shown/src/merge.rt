@@ -7,13 +7,13 @@ pub(crate) const EACH: usize = 3;
 pub(crate) const BOTH: usize = 6;
 
 // The calls of room 1, and then those of room 2.
-#[derive(Drop)]
+#[derive(Clone, Copy)]
 pub(crate) struct Calls {
     pub(crate) items: [Request; BOTH],
 }
 
 // What was heard so far: each answer at its call's place, and how many calls each room has made.
-#[derive(Drop)]
+#[derive(Clone, Copy)]
 pub(crate) struct Heard {
     pub(crate) ledger: Ledger,
     pub(crate) answers: [Answer; BOTH],

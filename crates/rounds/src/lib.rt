@@ -8,14 +8,14 @@ use rules::Ledger;
 use steps::{Round, Team};
 
 // What a step answers, and the stepping team's record after it.
-#[derive(Drop)]
+#[derive(Clone, Copy)]
 pub struct Apart {
     pub round: Round,
     pub team: Team,
 }
 
 // What a step answers, and all records after it.
-#[derive(Drop)]
+#[derive(Clone, Copy)]
 pub struct Table {
     pub round: Round,
     pub records: [Team; Team::RECORDS],

@@ -6,7 +6,7 @@ ghost use Rattle.rules.specs.Asks.{request};
 ghost use Rattle.rules.specs.Limits.{opens};
 
 // The five numbers that an opening takes. `cap`, the largest step, belongs to the run; `nodes` is the table room.
-#[derive(Drop)]
+#[derive(Clone, Copy)]
 pub struct Opening {
     pub start: i32,
     pub until: i32,
@@ -16,7 +16,7 @@ pub struct Opening {
 }
 
 // A result: a count of finds, with the labels of the first and of the last.
-#[derive(Drop)]
+#[derive(Clone, Copy)]
 pub struct Finds {
     pub count: u32,
     pub first: u32,
@@ -25,7 +25,7 @@ pub struct Finds {
 
 // A node: its range start..until, its progress, its owner (0 is nobody) and its left child (0 is none); its own result, that joined with its
 // children's, and how far its report has come.
-#[derive(Drop)]
+#[derive(Clone, Copy)]
 pub struct Node {
     pub start: u32,
     pub until: u32,
@@ -38,7 +38,7 @@ pub struct Node {
 }
 
 // Node n stands in slot n - 1 of the table.
-#[derive(Drop)]
+#[derive(Clone, Copy)]
 pub struct Ledger {
     pub start: u32,
     pub until: u32,
@@ -49,13 +49,13 @@ pub struct Ledger {
 }
 
 // An opened ledger, or the code of a refusal with a ledger that is all 0.
-#[derive(Drop)]
+#[derive(Clone, Copy)]
 pub struct Opened {
     pub code: u32,
     pub ledger: Ledger,
 }
 
-#[derive(Drop)]
+#[derive(Clone, Copy)]
 pub struct Request {
     pub kind: i32,
     pub team: i32,
@@ -67,7 +67,7 @@ pub struct Request {
     pub last: i32,
 }
 
-#[derive(Drop)]
+#[derive(Clone, Copy)]
 pub struct Answer {
     pub code: u32,
     pub state: u32,
@@ -78,14 +78,14 @@ pub struct Answer {
 }
 
 // A request's answer, with the ledger after it.
-#[derive(Drop)]
+#[derive(Clone, Copy)]
 pub struct Answered {
     pub ledger: Ledger,
     pub answer: Answer,
 }
 
 // All that a request sees of a well-formed ledger: a few numbers, the number that a new pair would get, its node and that node's children.
-#[derive(Drop)]
+#[derive(Clone, Copy)]
 pub struct View {
     pub teams: u32,
     pub room: u32,
@@ -99,7 +99,7 @@ pub struct View {
 
 // What a request does to its node, and no more: nothing; the owner becomes a team; the progress becomes a position, or the mark of one; the
 // node gets a pair of children, or its own result; or its joined one, which is made where it is stored.
-#[derive(Drop)]
+#[derive(Clone, Copy)]
 pub enum Change {
     Keep,
     Own(u32),
@@ -110,14 +110,14 @@ pub enum Change {
     Push,
 }
 
-#[derive(Drop)]
+#[derive(Clone, Copy)]
 pub struct Outcome {
     pub answer: Answer,
     pub change: Change,
 }
 
 // The unclaimed count, or the code of its refusal with a count of 0.
-#[derive(Drop)]
+#[derive(Clone, Copy)]
 pub struct Unclaimed {
     pub code: u32,
     pub count: u64,

@@ -6,7 +6,7 @@ ghost use Rattle.scanner.specs.Scanning.{at_start, found, past};
 
 use text_rules::Token;
 
-#[derive(Drop)]
+#[derive(Clone, Copy)]
 pub struct Scanner<'a> {
     pub text: &'a [u8],
     pub place: usize,

@@ -9,7 +9,7 @@ use libc::STDOUT_FILENO;
 use text_rules::{Kind, Token};
 
 // The first token of a text, and the place of the scanner past it.
-#[derive(Drop)]
+#[derive(Clone, Copy)]
 struct Found {
     token: Token,
     place: usize,

@@ -12,7 +12,7 @@ use rules::Ledger;
 const NODES: u32 = 31;
 
 // The sheets from..to of a node, granted to a team; unclaimed ones where the team is 0.
-#[derive(Drop)]
+#[derive(Clone, Copy)]
 pub struct Piece {
     pub team: u32,
     pub node: u32,
@@ -21,7 +21,7 @@ pub struct Piece {
 }
 
 // A row of pieces. A count of one past the most says that there were more.
-#[derive(Drop)]
+#[derive(Clone, Copy)]
 pub struct Pieces {
     pub count: usize,
     pub items: [Piece; Pieces::MOST],

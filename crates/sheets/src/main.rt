@@ -50,7 +50,7 @@ fn short_listing_area() -> [u8; SHORT_BYTES]
 }
 
 // How many bytes are moved so far, whether another call is to be made, and whether the last one found that nothing is left to move.
-#[derive(Drop)]
+#[derive(Clone, Copy)]
 struct Moved {
     count: usize,
     goes_on: bool,

@@ -11,7 +11,7 @@ mod ledgers;
 mod show;
 
 // The document's schedule: a step's request and answer, and both records after it. The last step is of no team, and is refused.
-#[derive(Drop)]
+#[derive(Clone, Copy)]
 struct Run {
     ledger: Ledger,
     records: [Team; 32],

@@ -12,14 +12,14 @@ use rules::Opening;
 use text_rules::{Header, Schedule, Token, Verdict};
 
 // The line of the first number, or of a wrong byte before it, 0 where there is neither, and its place.
-#[derive(Drop)]
+#[derive(Clone, Copy)]
 struct Head {
     line: u32,
     place: usize,
 }
 
 // A line's numbers up to its end, or up to a byte with 22 or 23: how many, the first of them, that code or 0, and the place after it all.
-#[derive(Drop)]
+#[derive(Clone, Copy)]
 struct Row {
     count: usize,
     first: [u32; Header::MOST],
@@ -28,21 +28,21 @@ struct Row {
 }
 
 // The numbers of the schedule: the line of the first that is no team's, 0 where there is none, and how many there are.
-#[derive(Drop)]
+#[derive(Clone, Copy)]
 struct Tally {
     stranger: u32,
     count: usize,
 }
 
 // What comes after the header: its earliest byte with 22 or 23, and the numbers before that.
-#[derive(Drop)]
+#[derive(Clone, Copy)]
 struct Survey {
     fault: Verdict,
     tally: Tally,
 }
 
 // The header's answer, with the schedule's numbers and the place where they begin: none and the text's end where the header is refused.
-#[derive(Drop)]
+#[derive(Clone, Copy)]
 struct Heading {
     verdict: Verdict,
     opening: Opening,

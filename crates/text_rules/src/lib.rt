@@ -4,7 +4,7 @@
 
 use rules::Opening;
 
-#[derive(Drop)]
+#[derive(Clone, Copy)]
 pub enum Kind {
     End,
     LineEnd,
@@ -13,7 +13,7 @@ pub enum Kind {
 }
 
 // What stands at a place of the text, with the place after it. The value is a number's, and else 0.
-#[derive(Drop)]
+#[derive(Clone, Copy)]
 pub struct Token {
     pub kind: Kind,
     pub value: u32,
@@ -21,14 +21,14 @@ pub struct Token {
 }
 
 // The code of a refusal and its LINE, both 0 when granted.
-#[derive(Drop)]
+#[derive(Clone, Copy)]
 pub struct Verdict {
     pub code: u32,
     pub line: u32,
 }
 
 // The program is 0 where the header names none: five numbers, or a refusal.
-#[derive(Drop)]
+#[derive(Clone, Copy)]
 pub struct Header {
     pub code: u32,
     pub line: u32,
@@ -36,7 +36,7 @@ pub struct Header {
     pub program: u32,
 }
 
-#[derive(Drop)]
+#[derive(Clone, Copy)]
 pub struct Schedule {
     pub code: u32,
     pub line: u32,

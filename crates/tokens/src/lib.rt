@@ -9,7 +9,7 @@ ghost use Rattle.tokens.specs.Scan.{comment_end, most_grown, grown, read_as, num
 use text_rules::{Kind, Token};
 
 // What a run of digits is read as, and the place after it.
-#[derive(Drop)]
+#[derive(Clone, Copy)]
 pub struct Number {
     pub value: u32,
     pub end: usize,
