@@ -4,6 +4,7 @@ ghost use Rattle.rules.specs.WellFormed.{alone_rule, ranges_rule, child_rule, pu
 
 use rules::Node;
 
+#[tactic(auto, unfolding(rules::specs::WellFormed::alone_rule))]
 pub fn alone_ok(teams: u32, x: Node) -> bool
     ensures { result ≡ alone_rule teams x }
 {
@@ -24,6 +25,7 @@ fn ranges_ok(x: Node, a: Node, b: Node) -> bool
     (a.start == p) & (a.until == m) & (b.start == m) & (b.until == x.until)
 }
 
+#[tactic(auto, unfolding(rules::specs::WellFormed::child_rule))]
 pub fn child_ok(n: u32, used: u32, x: Node, a: Node, b: Node) -> bool
     ensures { result ≡ child_rule n used x a b }
 {
@@ -33,6 +35,7 @@ pub fn child_ok(n: u32, used: u32, x: Node, a: Node, b: Node) -> bool
     crate::is_childless(x) | (marked & left & ranges)
 }
 
+#[tactic(auto, using(crate::proofs::Makers::joined_in_parts))]
 fn pushed_ok(x: Node, a: Node, b: Node) -> bool
     ensures { result ≡ pushed_rule x a b }
 {
@@ -44,6 +47,7 @@ fn pushed_ok(x: Node, a: Node, b: Node) -> bool
 }
 
 // The rules of a node's report.
+#[tactic(auto, unfolding(rules::specs::WellFormed::stage_rule))]
 pub fn stage_ok(x: Node, a: Node, b: Node) -> bool
     ensures { result ≡ stage_rule x a b }
 {

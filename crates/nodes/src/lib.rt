@@ -49,6 +49,7 @@ pub fn left_over(x: Node) -> u32
 }
 
 // The middle is reached from the position by half of the rest, which never passes the range's end; a sum of both ends could.
+#[tactic(auto, unfolding(rules::specs::Nodes::middle))]
 pub fn middle_of(x: Node) -> u32
     ensures { result ≡ middle x }
 {
@@ -57,6 +58,7 @@ pub fn middle_of(x: Node) -> u32
     p + rest / 2
 }
 
+#[tactic(auto, unfolding(rules::specs::States::state_of))]
 pub fn state_of(x: Node) -> u32
     ensures { result ≡ state_of x }
 {
@@ -67,6 +69,7 @@ pub fn state_of(x: Node) -> u32
 }
 
 // 1 for a STOLEN node, 0 for any other.
+#[tactic(auto, unfolding(rules::specs::States::stolen_of))]
 pub fn stolen_one(x: Node) -> u32
     ensures { result ≡ stolen_of x }
 {
@@ -74,6 +77,7 @@ pub fn stolen_one(x: Node) -> u32
 }
 
 // What the node adds to the unclaimed count.
+#[tactic(auto, unfolding(rules::specs::Count::rest_of))]
 pub fn rest_of(x: Node) -> u32
     ensures { result ≡ rest_of x }
 {
@@ -81,6 +85,7 @@ pub fn rest_of(x: Node) -> u32
 }
 
 // Whether the node's work has ended: COMPLETED, STOLEN or EXPANDED.
+#[tactic(auto, unfolding(rules::specs::States::ended))]
 pub fn is_ended(x: Node) -> bool
     ensures { result ≡ ended x }
 {
@@ -94,6 +99,7 @@ pub fn is_pushed(x: Node) -> bool
 }
 
 // Whether the node, with the children a and b, cannot be pushed yet.
+#[tactic(auto, unfolding(rules::specs::States::unready))]
 pub fn is_unready(x: Node, a: Node, b: Node) -> bool
     ensures { result ≡ unready x a b }
 {
@@ -102,6 +108,7 @@ pub fn is_unready(x: Node, a: Node, b: Node) -> bool
 }
 
 // What a child adds to the joined result of the node: nothing where the node has no children.
+#[tactic(auto, unfolding(crate::specs::Makers::part_of))]
 fn part_of(x: Node, child: Node) -> Finds
     ensures { result ≡ part_of x child }
 {
@@ -185,6 +192,7 @@ pub fn parted_at(x: Node, left: u32) -> Node
     y
 }
 
+#[tactic(auto, unfolding(rules::specs::Nodes::left_part))]
 pub fn left_part(x: Node) -> Node
     ensures { result ≡ left_part x }
 {
@@ -192,6 +200,7 @@ pub fn left_part(x: Node) -> Node
     fresh_node(p, middle_of(x))
 }
 
+#[tactic(auto, unfolding(crate::specs::Makers::held_right))]
 pub fn right_part(x: Node) -> Node
     ensures { result ≡ held_right x }
 {
@@ -209,6 +218,7 @@ pub fn reported_by(x: Node, f: Finds) -> Node
 }
 
 // The node, pushed with its own result and those of its children a and b joined.
+#[tactic(auto, unfolding(crate::specs::Makers::held_pushed))]
 pub fn pushed_by(x: Node, a: Node, b: Node) -> Node
     ensures { result ≡ held_pushed x a b }
 {

@@ -20,6 +20,7 @@ const MOVES: [u32; 25] = [
 ];
 
 // The states to which a request of a kind may take a node in a state; 0 for what is no state or no kind.
+#[tactic(auto, unfolding(rules::specs::Moves::leads, rules::specs::Moves::entry_in, rules::specs::Moves::as_number, crate::specs::MoveTable::states_after))]
 pub fn states_after(state: u32, kind: u32) -> u32
     ensures { result ≡ states_after state kind }
 {
