@@ -13,6 +13,7 @@ const SLOTS: u32 = Opening::NODES as u32;
 // The tally has a place for each number from 0 to the last node's.
 const PLACES: usize = Opening::NODES + 1;
 
+#[tactic(auto, using(crate::proofs::Laws::numbers_are))]
 fn numbers_ok(l: Ledger) -> bool
     ensures { result ≡ numbers_rule l }
 {
@@ -23,6 +24,7 @@ fn numbers_ok(l: Ledger) -> bool
     range & teams & room & used
 }
 
+#[tactic(auto, unfolding(rules::specs::Table::at))]
 fn root_ok(l: Ledger) -> bool
     ensures { result ≡ root_range l }
 {
@@ -43,6 +45,7 @@ fn pair_slot(left: u32) -> usize
     left as usize
 }
 
+#[tactic(auto, using(rules::proofs::Nodes::at_next, crate::proofs::Laws::up_to_none, crate::proofs::Laws::up_to_more, crate::proofs::Laws::child_slots), unfolding(rules::specs::WellFormed::node_rule))]
 fn nodes_ok(l: Ledger) -> bool
     requires { l.used ≤ max_nodes }
     ensures { result ≡ up_to (node_rule l) l.used }
@@ -79,6 +82,7 @@ fn tally_slot(left: u32) -> usize
 }
 
 // At each number at which a pair can stand, how many nodes have it for left child.
+#[tactic(auto, using(rules::proofs::Sums::sum_by_none, crate::proofs::Laws::length_under, crate::proofs::Counts::zeros, crate::proofs::Counts::tally_bound, crate::proofs::Counts::tally_more))]
 fn tally(l: Ledger) -> [u32; PLACES]
     ensures { (c : ℕ) → c < max_nodes → get_or result c 0 ≡ sum_by (left_is c) l.nodes }
 {
@@ -94,6 +98,7 @@ fn tally(l: Ledger) -> [u32; PLACES]
     seen
 }
 
+#[tactic(auto, using(crate::proofs::Laws::up_to_none, crate::proofs::Laws::up_to_more, crate::proofs::Laws::up_to_same), unfolding(rules::specs::WellFormed::pair_rule))]
 fn pairs_ok(l: Ledger) -> bool
     requires { l.used ≤ max_nodes }
     ensures { result ≡ up_to (pair_rule l) l.used }
@@ -112,6 +117,7 @@ fn pairs_ok(l: Ledger) -> bool
 }
 
 // How many nodes are STOLEN.
+#[tactic(auto, using(rules::proofs::States::at_most_one, rules::proofs::Sums::sum_by_next, rules::proofs::Sums::sum_by_none, crate::proofs::Laws::length_under), unfolding(rules::specs::Table::stolen_in))]
 pub fn stolen_in(l: Ledger) -> u32
     ensures { result ≡ stolen_in l }
 {
@@ -132,6 +138,7 @@ fn room_ok(l: Ledger) -> bool
     (l.used as u64) + 2 * (k as u64) <= (l.room as u64)
 }
 
+#[tactic(auto, using(rules::proofs::Nodes::at_next, crate::proofs::Laws::up_to_none, crate::proofs::Laws::up_to_more), unfolding(rules::specs::WellFormed::unused_rule))]
 fn unused_ok(l: Ledger) -> bool
     ensures { result ≡ up_to (unused_rule l) max_nodes }
 {
@@ -149,6 +156,7 @@ fn unused_ok(l: Ledger) -> bool
 }
 
 // Whether a ledger, of any numbers at all, is well formed.
+#[tactic(auto, using(crate::proofs::Laws::used_small), unfolding(rules::specs::WellFormed::well_formed))]
 pub fn well_formed(l: Ledger) -> bool
     ensures { result ≡ well_formed l }
 {

@@ -59,6 +59,7 @@ fn no_room_lem(v: View) -> bool
     (v.room as u64) < (v.used as u64) + 2 * (v.stolen as u64) + 2
 }
 
+#[tactic(auto, unfolding(rules::specs::Refusals::own_code))]
 fn own_code(x: Node) -> u32
     ensures { result ≡ own_code x }
 {
@@ -66,6 +67,7 @@ fn own_code(x: Node) -> u32
     numbers::pick(!nodes::is_unowned(x), 5, c6)
 }
 
+#[tactic(auto, unfolding(rules::specs::Refusals::advance_code))]
 fn advance_code(x: Node, r: Request) -> u32
     ensures { result ≡ advance_code x r }
 {
@@ -76,6 +78,7 @@ fn advance_code(x: Node, r: Request) -> u32
     numbers::pick(!good_amount(r), 7, c8)
 }
 
+#[tactic(auto, unfolding(rules::specs::Refusals::mark_code))]
 fn mark_code(v: View, r: Request) -> u32
     ensures { result ≡ mark_code v r }
 {
@@ -88,6 +91,7 @@ fn mark_code(v: View, r: Request) -> u32
     numbers::pick(nodes::is_unowned(x), 11, c12)
 }
 
+#[tactic(auto, unfolding(rules::specs::Refusals::expand_code))]
 fn expand_code(x: Node) -> u32
     ensures { result ≡ expand_code x }
 {
@@ -95,6 +99,7 @@ fn expand_code(x: Node) -> u32
     numbers::pick(!nodes::is_marked(x), 15, c16)
 }
 
+#[tactic(auto, unfolding(rules::specs::Refusals::report_code))]
 fn report_code(x: Node, r: Request) -> u32
     ensures { result ≡ report_code x r }
 {
@@ -104,6 +109,7 @@ fn report_code(x: Node, r: Request) -> u32
     numbers::pick(!by_owner(x, r), 8, c31)
 }
 
+#[tactic(auto, unfolding(rules::specs::Refusals::push_code))]
 fn push_code(v: View) -> u32
     ensures { result ≡ push_code v }
 {
@@ -113,6 +119,7 @@ fn push_code(v: View) -> u32
     numbers::pick(nodes::is_pushed(x), 34, c35)
 }
 
+#[tactic(auto, unfolding(rules::specs::Refusals::kind_code))]
 fn kind_code(v: View, r: Request) -> u32
     ensures { result ≡ kind_code v r }
 {
@@ -130,6 +137,7 @@ fn kind_code(v: View, r: Request) -> u32
 }
 
 // The code of a request, 0 where it is granted.
+#[tactic(auto, unfolding(rules::specs::Refusals::refusal))]
 pub fn refusal_of(v: View, r: Request) -> u32
     ensures { result ≡ refusal v r }
 {

@@ -86,6 +86,7 @@ fn outcome_of(a: Answer, c: Change) -> Outcome
     }
 }
 
+#[tactic(auto, unfolding(rules::specs::Requests::owning))]
 fn own_outcome(v: View, r: Request) -> Outcome
     ensures { result ≡ owning v r }
 {
@@ -95,6 +96,7 @@ fn own_outcome(v: View, r: Request) -> Outcome
 }
 
 // Two signed numbers that are not negative never make an unsigned sum wrap.
+#[tactic(auto, unfolding(rules::specs::Requests::batch_end))]
 fn batch_end(x: Node, r: Request) -> u32
     ensures { result ≡ batch_end x r }
 {
@@ -103,6 +105,7 @@ fn batch_end(x: Node, r: Request) -> u32
     numbers::lesser(p + k, x.until)
 }
 
+#[tactic(auto, unfolding(rules::specs::Requests::advancing))]
 fn advance_outcome(v: View, r: Request) -> Outcome
     ensures { result ≡ advancing v r }
 {
@@ -112,6 +115,7 @@ fn advance_outcome(v: View, r: Request) -> Outcome
     outcome_of(range_answer(p, e), Change::Advance(e))
 }
 
+#[tactic(auto, unfolding(rules::specs::Requests::marking))]
 fn mark_outcome(v: View, r: Request) -> Outcome
     ensures { result ≡ marking v r }
 {
@@ -120,6 +124,7 @@ fn mark_outcome(v: View, r: Request) -> Outcome
     outcome_of(range_answer(p, x.until), Change::Mark(p))
 }
 
+#[tactic(auto, unfolding(rules::specs::Requests::expanding))]
 fn expand_outcome(v: View) -> Outcome
     ensures { result ≡ expanding v }
 {
@@ -128,6 +133,7 @@ fn expand_outcome(v: View) -> Outcome
     outcome_of(split_answer(pair, nodes::middle_of(x)), Change::Split(pair))
 }
 
+#[tactic(auto, unfolding(rules::specs::Requests::looking))]
 fn look_outcome(v: View) -> Outcome
     ensures { result ≡ looking v }
 {
@@ -148,6 +154,7 @@ fn finds_in(r: Request) -> Finds
     }
 }
 
+#[tactic(auto, unfolding(rules::specs::Requests::reporting))]
 fn report_outcome(r: Request) -> Outcome
     ensures { result ≡ reporting r }
 {
@@ -155,12 +162,14 @@ fn report_outcome(r: Request) -> Outcome
     outcome_of(refused_by(0), Change::Report(f))
 }
 
+#[tactic(auto, unfolding(rules::specs::Requests::pushing))]
 fn push_outcome() -> Outcome
     ensures { result ≡ pushing }
 {
     outcome_of(refused_by(0), Change::Push)
 }
 
+#[tactic(auto, unfolding(rules::specs::Requests::granted))]
 fn granted_by(v: View, r: Request) -> Outcome
     ensures { result ≡ granted v r }
 {
@@ -177,6 +186,7 @@ fn granted_by(v: View, r: Request) -> Outcome
 }
 
 // What a request answers and does, by the one node it names.
+#[tactic(auto, unfolding(rules::specs::Requests::decided))]
 pub fn decide(v: View, r: Request) -> Outcome
     ensures { result ≡ decided v r }
 {
