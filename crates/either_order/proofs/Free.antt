@@ -1,7 +1,7 @@
 -- Two requests that are no exception, as plain facts: they say the same of the two whichever comes first.
 use mathlib.Core.Path.{◌≡◌, refl, sym, ◌∙◌}
 use mathlib.Core.Logic.{◌≢◌}
-use mathlib.Core.Bool.{Bool, true, false, ◌||◌, or_true, true≢false}
+use mathlib.Core.Bool.{Bool, true, false, ◌||◌, or-true, true≢false}
 use Prim.Native.Nat.{◌+◌, ◌≤◌}
 use native.Mathlib.Omega.{arith}
 use borrow.Author.Tests.{eq-eqb}
@@ -54,7 +54,7 @@ module _ (r s : Request) where
 
   second_pushes : nat_of s.kind ≡ PUSH → either_pushes r s ≡ true
   unfolding either_pushes
-  second_pushes e = rw e (or_true (is_of PUSH r))
+  second_pushes e = rw e (or-true (is_of PUSH r))
 
   pub free_kinds : kinds_matter r s ≡ false → FreeKinds r s
   unfolding kinds_matter

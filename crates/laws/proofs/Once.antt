@@ -143,7 +143,7 @@ module _ (s : ℕ) (l : Ledger) (w : WF l) (n : ℕ) (used : InUse l n) where
       omega
       (arith, halves f, is_none s (parted x (next_pair l)) (λ g. let e = g.leaf in omega (arith, (spare l w).past)), sums l w n used f (free_in s) (is_none s blank (free_blank s)))
 
-becomes_free : {l k : Ledger} {n : ℕ} (s : ℕ) → WF l → Becomes l n k → free_at s k ≤ free_at s l
+becomes_free : {l : Ledger} {n : ℕ} {k : Ledger} (s : ℕ) → WF l → Becomes l n k → free_at s k ≤ free_at s l
 becomes_free s w same = omega arith
 becomes_free {l} {n = n} s w (put-there y u h) = omega (arith, less_free s l w n u y h, stored s l w n u y)
 becomes_free {l} {n = n} s w (forked u f) = split_free s l w n u f

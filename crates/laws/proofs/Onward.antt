@@ -47,7 +47,7 @@ pub record Later (l k : Ledger) : Type 0 where
   pub each : (n : ℕ) → InUse l n → Onward (at l n) (at k n)
 
 -- the node that is asked for
-here_onward : {l k : Ledger} {n : ℕ} → WF l → Becomes l n k → Onward (at l n) (at k n)
+here_onward : {l : Ledger} {n : ℕ} {k : Ledger} → WF l → Becomes l n k → Onward (at l n) (at k n)
 here_onward {l} {n = n} w same = stay (at l n)
 here_onward {l} {n = n} w (stored y u h) =
     rw
@@ -58,7 +58,7 @@ here_onward {l} {n = n} w (forked u f) =
     (split_slots l w n u f).here
     (record { start = refl; until = refl; forward = omega arith; owner = λ o. refl; stands = λ m. refl })
 
-still_used : {l k : Ledger} {n : ℕ} → WF l → Becomes l n k → (m : ℕ) → InUse l m → InUse k m
+still_used : {l : Ledger} {n : ℕ} {k : Ledger} → WF l → Becomes l n k → (m : ℕ) → InUse l m → InUse k m
 still_used w same m u = u
 still_used {l} {n = n} w (stored y v h) m u = put_used l n y u
 still_used {l} {n = n} w (forked v f) m u = (split_slots l w n v f).kept m u

@@ -1,8 +1,8 @@
 -- A pushed root holds each report once, joined in the order of the story; and what is reported is final.
-use Prim.Native.Nat.{ℕ, zero, suc, ◌+◌, ◌-◌, ◌≤◌, ◌<◌}
+use Prim.Native.Nat.{ℕ, ◌+◌, ◌≤◌, ◌<◌}
 use mathlib.Core.Path.{◌≡◌, refl, sym, ap, ◌∙◌}
 use mathlib.Core.Logic.{◌≢◌}
-use mathlib.Core.Bool.{Bool, true, false, cond, true≢false, or_true}
+use mathlib.Core.Bool.{Bool, true, false, cond, true≢false, or-true}
 use mathlib.Core.List.{List, [], ◌∷◌, ◌++◌}
 use native.Mathlib.Omega.{arith}
 use native.Mathlib.Decide.{ℕ_discrete, dec_le}
@@ -10,13 +10,11 @@ use lib.Dec.{eqb}
 use lib.IntN.{pos}
 use lib.ListN.{length}
 use borrow.Author.Tests.{eq-eqb, ne_eqb}
-use Rattle.numbers.specs.Fields.{nat_of}
 use Rattle.rules.specs.declared.Finds.{Finds}
 use Rattle.rules.specs.declared.Node.{Node}
 use Rattle.rules.specs.declared.Ledger.{Ledger}
 use Rattle.rules.specs.declared.Opening.{Opening}
 use Rattle.rules.specs.declared.Request.{Request}
-use Rattle.rules.specs.declared.Answer.{Answer}
 use Rattle.rules.specs.declared.Answered.{Answered}
 use Rattle.rules.specs.Count.{rest_of, unclaimed}
 use Rattle.rules.specs.Joining.{none, join, join_all}
@@ -27,8 +25,8 @@ use Rattle.rules.specs.Requests.{batch_end, node_in, requested}
 use Rattle.rules.specs.States.{completed, unready}
 use Rattle.rules.specs.Table.{InUse, at, put, next_pair}
 use Rattle.laws.specs.Listing.{after_all}
-use Rattle.laws.specs.Story.{Report, Entry, given, found, Story, whole, parted, found_in, report_in, reports_in, entry_of, entries, told_all}
-use Rattle.laws.specs.Reports.{times_found, HoldsReports, PushedRootHoldsEveryReport, ReportStays, ReportsAreFinal}
+use Rattle.laws.specs.Story.{Report, Entry, given, found, Story, whole, report_in, reports_in, entry_of, entries, told_all}
+use Rattle.laws.specs.Reports.{times_found, PushedRootHoldsEveryReport, ReportStays, ReportsAreFinal}
 use Rattle.rules.proofs.Effects.{Kept, unwritten, written, Effect, rests, stores, claims, splits, effect_of, Becomes, same, stored, forked, becomes_of}
 use Rattle.rules.proofs.Expand.{Slots, next, split_slots, stays}
 use Rattle.rules.proofs.Granted.{in_use}
@@ -54,7 +52,7 @@ reports_one x s some = rw (ne_eqb x.stage UNREPORTED s, ne_eqb x.start x.until s
 
 reports_empty : (x : Node) → x.start ≡ x.until → reports_of x ≡ []
 unfolding reports_of
-reports_empty x e = rw (eq-eqb x.start x.until e, or_true)
+reports_empty x e = rw (eq-eqb x.start x.until e, or-true)
 
 reports_new : (a b : ℕ) → reports_of (fresh a b) ≡ []
 unfolding reports_of
@@ -289,7 +287,7 @@ kept_stays : (x y : Node) → y.stage ≤ PUSHED → Kept x y → ReportStays x 
 kept_stays x y most h =
     record { stage = h.stage; own = h.own; pushed = λ s. (omega (arith, h.stage), h.joined s) }
 
-becomes_stays : {l k : Ledger} {m : ℕ} → WF l → WF k → Becomes l m k → (n : ℕ) → InUse l n → InUse k n × ReportStays (at l n) (at k n)
+becomes_stays : {l : Ledger} {m : ℕ} {k : Ledger} → WF l → WF k → Becomes l m k → (n : ℕ) → InUse l n → InUse k n × ReportStays (at l n) (at k n)
 becomes_stays w v same n u = (u, stays_same _)
 becomes_stays {l} {m = m} w v (stored y q h) n u = go (ℕ_discrete n m)
   where

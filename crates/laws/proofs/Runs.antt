@@ -23,7 +23,7 @@ pub record SameRange (l k : Ledger) : Type 0 where
   pub teams : k.teams ≡ l.teams
   pub room : k.room ≡ l.room
 
-becomes_range : {l k : Ledger} {n : ℕ} → Becomes l n k → SameRange l k
+becomes_range : {l : Ledger} {n : ℕ} {k : Ledger} → Becomes l n k → SameRange l k
 unfolding put grown
 becomes_range same = record { start = refl; until = refl; teams = refl; room = refl }
 becomes_range (stored y u h) = record { start = refl; until = refl; teams = refl; room = refl }

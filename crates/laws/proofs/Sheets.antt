@@ -11,7 +11,6 @@ use Rattle.rules.specs.Limits.{opens}
 use Rattle.laws.specs.Listing.{sheets, after_all, batches, granted_from, ListsOnly}
 use Rattle.rules.specs.Opening.{opened, ledger_of}
 use Rattle.laws.specs.Sheets.{OneListing, EverySheetOnce}
-use Rattle.rules.specs.Table.{at}
 use Rattle.laws.proofs.Batches.{sheets_none}
 use Rattle.laws.proofs.Runs.{run_range}
 use Rattle.rules.proofs.Opens.{begun, opened_wf, opened_root}

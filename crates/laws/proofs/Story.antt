@@ -34,7 +34,7 @@ use Rattle.rules.proofs.Keeps.{wf_answered, requested_wf}
 use Rattle.laws.proofs.Runs.{run_range}
 use Rattle.rules.proofs.Nodes.{at_same, at_other, put_used}
 use Rattle.rules.proofs.Opens.{begun, opened_wf, opened_root}
-use Rattle.rules.proofs.Record.{WF, in_table, no_children, root_used}
+use Rattle.rules.proofs.Record.{WF, in_table, root_used}
 use Rattle.rules.proofs.States.{Stolen}
 
 -- of a node all this was granted: its sheets up to its position, and what is reported of it

@@ -1,8 +1,7 @@
 -- The numbers of a well-formed ledger have 32 bits, those of its results too.
 use mathlib.Core.Path.{◌≡◌, refl, ap}
 use mathlib.Core.Bool.{Bool, true, false, cond}
-use mathlib.Core.List.{[], ◌∷◌}
-use Prim.Native.Nat.{ℕ, zero, suc, ◌+◌, ◌*◌, ◌≤◌, ◌<◌}
+use Prim.Native.Nat.{ℕ, zero, suc, ◌+◌, ◌≤◌, ◌<◌}
 use native.Mathlib.Decide.{ℕ_discrete, dec_le, dec_lt}
 use native.Mathlib.Omega.{arith}
 use lib.Dec.{eqb}
@@ -15,7 +14,7 @@ use Rattle.rules.specs.declared.Finds.{Finds}
 use Rattle.rules.specs.declared.Node.{Node}
 use Rattle.rules.specs.declared.Ledger.{Ledger}
 use Rattle.rules.specs.Joining.{max_finds, none, first_of, last_of, join, join_all, reportable, passing}
-use Rattle.rules.specs.Nodes.{UNREPORTED, PREPARED, blank, position_of, joined_of}
+use Rattle.rules.specs.Nodes.{UNREPORTED, PREPARED, blank, joined_of}
 use Rattle.rules.specs.Table.{InUse, at}
 use Rattle.rules.proofs.Facts.{facts}
 use Rattle.rules.proofs.FindsFit.{joined_fits}

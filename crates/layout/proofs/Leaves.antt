@@ -1,7 +1,7 @@
 -- What the code needs that reads and writes a result or a node, number by number.
-use mathlib.Core.Path.{◌≡◌, refl, sym, ap, ◌∙◌}
-use mathlib.Core.List.{List, [], ◌∷◌, ◌++◌}
-use Prim.Native.Nat.{ℕ, ◌+◌, ◌*◌, ◌≤◌}
+use mathlib.Core.Path.{◌≡◌, refl}
+use mathlib.Core.List.{List}
+use Prim.Native.Nat.{ℕ, ◌+◌, ◌≤◌}
 use native.Mathlib.Omega.{arith}
 use lib.IntN.{ℤ}
 use lib.ListN.{length, drop}
@@ -12,7 +12,7 @@ use Rattle.layout.specs.Sizes.{node_size, slot_place, progress_place, owner_plac
 use Rattle.layout.specs.Numbers.{number_at, four, fours, signed_of, bits_of, written}
 use Rattle.layout.specs.Areas.{finds_at, node_of, slot_at, node_fields, node_bytes, result_fields}
 use Rattle.layout.proofs.Words.{number_drop}
-use Rattle.layout.proofs.Fours.{Wrote, wrote_first, wrote_next, wrote_more}
+use Rattle.layout.proofs.Fours.{wrote_first, wrote_next, wrote_more}
 
 finds-drop : (bs : List ℕ) (k m : ℕ) → finds_at (drop k bs) m ≡ finds_at bs (k + m)
 unfolding finds_at

@@ -11,7 +11,6 @@ use Rattle.rules.specs.declared.Node.{Node}
 use Rattle.rules.specs.declared.Ledger.{Ledger}
 use Rattle.rules.specs.Nodes.{PREPARED, PUSHED, blank, owned, moved, parted, reported, pushed}
 use Rattle.rules.specs.Table.{at, put, grown}
-use Rattle.rules.proofs.Nodes.{put-length}
 use Rattle.layout.specs.Sizes.{head_size, node_size, area_size, slot_place, used_place, progress_place, owner_place, left_place, own_place, joined_place, stage_place}
 use Rattle.layout.specs.Numbers.{four, fours, bits_of, written}
 use Rattle.layout.specs.Areas.{decoded, node_fields, node_bytes, nodes_bytes, head_bytes, encoded, over, result_fields}

@@ -15,12 +15,12 @@ use Rattle.rules.specs.Nodes.{make_node, blank}
 use Rattle.rules.proofs.Nodes.{at_next}
 use Rattle.rules.proofs.Record.{WF, rules}
 use Rattle.layout.specs.Sizes.{head_size, node_size, area_size, own_place, joined_place}
-use Rattle.layout.specs.Numbers.{Bytes, words, number_at, four, fours, signed_of, bits_of}
+use Rattle.layout.specs.Numbers.{Bytes, words, number_at, four, fours, signed_of}
 use Rattle.layout.specs.Areas.{finds_at, node_of, nodes_of, decoded, node_fields, node_bytes, nodes_bytes, head_bytes, encoded}
-use Rattle.layout.specs.Demands.{Area, in_use, LedgerBack, BytesBack, OneToOne, EncodedIsArea}
+use Rattle.layout.specs.Demands.{LedgerBack, BytesBack, OneToOne, EncodedIsArea}
 use Rattle.layout.proofs.Words.{bytes_drop, number_small, bits_signed, signed_bits, bits_small}
 use Rattle.layout.proofs.Fours.{fours-length, fours_bytes, fours-read, fours_back}
-use Rattle.layout.proofs.Fits.{Small, Fitting, slot_small}
+use Rattle.layout.proofs.Fits.{Small, slot_small}
 
 -- ---- from bytes to bytes
 

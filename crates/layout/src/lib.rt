@@ -43,6 +43,7 @@ fn wide(b: u8) -> u32
 }
 
 // The number in the four bytes from a place on, the least byte first. The compiler makes one load of it.
+#[tactic(auto, unfolding(crate::specs::Numbers::number_at))]
 pub fn number_at(bytes: &[u8], at: usize) -> u32
     requires { at + 4 ≤ length bytes.now }
     ensures { result ≡ number_at bytes.now at }
@@ -66,6 +67,7 @@ fn signed_of(n: u32) -> i32
 }
 
 // Two's complement, written.
+#[tactic(auto, unfolding(crate::specs::Numbers::bits_of))]
 fn bits_of(p: i32) -> u32
     ensures { result ≡ bits_of p }
 {
@@ -76,6 +78,7 @@ fn bits_of(p: i32) -> u32
     }
 }
 
+#[tactic(auto, unfolding(crate::specs::Areas::finds_at))]
 fn finds_at(bytes: &[u8], at: usize) -> Finds
     requires { at + 12 ≤ length bytes.now }
     ensures { result ≡ finds_at bytes.now at }
@@ -118,6 +121,7 @@ pub fn slot_in(bytes: &[u8], i: usize) -> Node
 }
 
 // Writes a number into the four bytes from a place on.
+#[tactic(auto, using(crate::proofs::Writing::four_stores), unfolding(crate::specs::Numbers::four))]
 pub fn put_number(bytes: &mut [u8], at: usize, n: u32)
     requires { at + 4 ≤ length bytes.old }
     ensures { bytes.new ≡ written bytes.old at (four n) }

@@ -11,7 +11,6 @@ use lib.ListN.{length}
 use borrow.Author.Tests.{ne_eqb}
 use Rattle.rules.specs.declared.Node.{Node}
 use Rattle.rules.specs.declared.Ledger.{Ledger}
-use Rattle.rules.specs.Examples.{node}
 use Rattle.rules.specs.Nodes.{blank, fresh, parted, marked, position_of, middle, left_part, right_part}
 use Rattle.rules.specs.States.{stolen_of}
 use Rattle.rules.specs.Table.{InUse, at, put, next_pair, grown, stolen_in}
