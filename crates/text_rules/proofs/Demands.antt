@@ -131,7 +131,7 @@ exact_number false ds e f = rw e (signed_is (value ds) (small_value ds e))
 all_exact : (line : ℕ) (ms : List Mark) → is_granted (fault_from line ms) ≡ true → AllExact ms
 unfolding fault_from
 all_exact line [] g = none
-all_exact line (line_end k ∷ ms) g = AllExact.line (all_exact _ ms g)
+all_exact line (line_end k ∷ ms) g = AllExact.line (all_exact (line + 1) ms g)
 all_exact line (number ds k ∷ ms) g =
     let p = passed _ _ _ refl g in
     exact (exact_number (too_large ds) ds refl p.0) (all_exact line ms p.1)
@@ -226,7 +226,7 @@ test_short b v rest e g = rw e g
 fault_short : (line : ℕ) (ms : List Mark) → Short (fault_from line ms) → ⊥
 unfolding fault_from Short
 fault_short line [] e = omega (arith, e)
-fault_short line (line_end k ∷ ms) e = fault_short _ ms e
+fault_short line (line_end k ∷ ms) e = fault_short (line + 1) ms e
 fault_short line (number ds k ∷ ms) e = given_short _ _ _ (λ z. omega (arith, z)) (fault_short line ms) e
 fault_short line (wrong k ∷ ms) e = omega (arith, e)
 
