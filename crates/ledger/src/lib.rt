@@ -12,6 +12,7 @@ mod opens;
 pub mod table;
 
 // Opens a ledger, or refuses with 20 and an all-zero ledger.
+#[tactic(auto, unfolding(rules::specs::Opening::opening))]
 pub fn open(o: Opening) -> Opened
     ensures { result ≡ opening o }
 {
@@ -28,6 +29,7 @@ pub fn open(o: Opening) -> Opened
 }
 
 // One request: its answer, and the ledger after it. A refusal changes nothing.
+#[tactic(auto, using(rules::proofs::Record::rules, numbers::proofs::Signed::told, rules::proofs::Record::both_sound, nodes::proofs::Laws::chosen, nodes::proofs::Laws::passed_by, nodes::proofs::Laws::natural_held, forms::proofs::Laws::length_under, forms::proofs::Laws::used_small, crate::proofs::Laws::numbers_first, crate::proofs::Slots::request_stores), unfolding(rules::specs::Requests::view, rules::specs::Requests::answered, rules::specs::Requests::requested))]
 pub fn request(l: Ledger, r: Request) -> Answered
     ensures { result ≡ requested l r }
 {
@@ -51,6 +53,7 @@ pub fn request(l: Ledger, r: Request) -> Answered
 }
 
 // The unclaimed count; a ledger that is not well formed gets code 1 instead.
+#[tactic(auto, using(nodes::proofs::Laws::chosen, nodes::proofs::Laws::passed_by), unfolding(rules::specs::Count::counted))]
 pub fn count(l: Ledger) -> Unclaimed
     ensures { result ≡ counted l }
 {

@@ -58,6 +58,7 @@ fn node_in(l: Ledger, slot: usize) -> Node
     }
 }
 
+#[tactic(auto, unfolding(rules::specs::Table::at))]
 fn node_at(l: Ledger, n: u32) -> Node
     ensures { result ≡ at l n }
 {
@@ -65,6 +66,7 @@ fn node_at(l: Ledger, n: u32) -> Node
 }
 
 // A request that is granted stores into slots of the table, so none is tested here.
+#[tactic(auto, unfolding(rules::specs::Table::put))]
 fn with_node(l: Ledger, n: u32, x: Node) -> Ledger
     requires { IsSlot n }
     ensures { result ≡ put l n x }
@@ -81,6 +83,7 @@ fn larger(a: u32, b: u32) -> u32
     if a < b { b } else { a }
 }
 
+#[tactic(auto, unfolding(rules::specs::Table::grown))]
 fn with_pair_used(l: Ledger, pair: u32) -> Ledger
     requires { IsSlot pair }
     ensures { result ≡ grown l pair }
@@ -90,6 +93,7 @@ fn with_pair_used(l: Ledger, pair: u32) -> Ledger
     m
 }
 
+#[tactic(auto, using(rules::proofs::Sums::sum_by_next, rules::proofs::Sums::sum_by_none, forms::proofs::Laws::length_under), unfolding(rules::specs::Count::unclaimed))]
 pub(crate) fn unclaimed_in(l: Ledger) -> u64
     ensures { result ≡ unclaimed l }
 {
@@ -104,12 +108,14 @@ pub(crate) fn unclaimed_in(l: Ledger) -> u64
 }
 
 // Node n stands in slot n - 1, so the slot after the left child's has the left child's number.
+#[tactic(auto, using(rules::proofs::Nodes::at_next))]
 fn right_of(l: Ledger, x: Node) -> Node
     ensures { result ≡ at l (x.left + 1) }
 {
     node_in(l, x.left as usize)
 }
 
+#[tactic(auto, unfolding(rules::specs::Requests::view, rules::specs::Table::next_pair))]
 pub(crate) fn view_of(l: Ledger, n: u32) -> View
     requires { l.used ≤ max_nodes }
     ensures { result ≡ view l n }
@@ -149,6 +155,7 @@ fn push_at(l: Ledger, n: u32, x: Node) -> Ledger
     with_node(l, n, nodes::pushed_by(x, left, right))
 }
 
+#[tactic(auto, using(crate::proofs::Laws::advanced_put, crate::proofs::Laws::marked_put, crate::proofs::Laws::pushed_put), unfolding(rules::specs::Requests::changed))]
 pub(crate) fn changed_by(l: Ledger, n: u32, c: Change) -> Ledger
     requires { Stores l n c }
     ensures { result ≡ changed l n c }

@@ -2,6 +2,7 @@
 use crate::show;
 use rules::{Answer, Ledger, Opening, Request};
 use sheet_order::{Piece, Pieces};
+use std::io;
 use steps::{Program, Team};
 
 pub(crate) const TAKE: i32 = Request::OWN as i32;
@@ -30,14 +31,20 @@ pub(crate) fn opened(start: i32, until: i32, teams: i32, nodes: i32) -> Ledger {
     l
 }
 
-pub(crate) fn begin(start: i32, until: i32, teams: i32, nodes: i32) -> Lesson {
+pub(crate) fn begin(
+    rt: &impl Print,
+    start: i32,
+    until: i32,
+    teams: i32,
+    nodes: i32,
+) -> io::Result<Lesson> {
     let l = opened(start, until, teams, nodes);
     let none = Pieces::none();
-    show::listing(l, none);
-    Lesson {
+    show::listing(rt, l, none)?;
+    Ok(Lesson {
         ledger: l,
         granted: none,
-    }
+    })
 }
 
 // What was granted so far, with what this answer grants: an advance that was granted is a batch.
@@ -54,31 +61,41 @@ fn noted(granted: Pieces, team: u32, kind: u32, node: u32, a: Answer) -> Pieces 
 }
 
 // The lesson goes on with this ledger, after this answer.
-fn on(had: Pieces, next: Ledger, team: u32, kind: u32, node: u32, a: Answer) -> Lesson {
-    show::asked(team, kind, node, a);
+fn on(
+    rt: &impl Print,
+    had: Pieces,
+    next: Ledger,
+    team: u32,
+    kind: u32,
+    node: u32,
+    a: Answer,
+) -> io::Result<Lesson> {
+    show::asked(rt, team, kind, node, a)?;
     let granted = noted(had, team, kind, node, a);
-    show::listing(next, granted);
-    Lesson {
+    show::listing(rt, next, granted)?;
+    Ok(Lesson {
         ledger: next,
         granted: granted,
-    }
+    })
 }
 
 // A request of anybody.
 pub(crate) fn ask(
+    rt: &impl Print,
     s: Lesson,
     kind: i32,
     team: i32,
     node: i32,
     position: i32,
     amount: i32,
-) -> Lesson {
+) -> io::Result<Lesson> {
     let l = s.ledger;
     let had = s.granted;
     let done = ledger::request(l, Request::new(kind, team, node, position, amount, 0, 0, 0));
     let next = done.ledger;
     let a = done.answer;
     on(
+        rt,
         had,
         next,
         numbers::natural(team),
@@ -104,7 +121,7 @@ pub(crate) fn with_teams(s: Lesson) -> Run {
 }
 
 // One step of a team, at most 4 sheets a batch.
-pub(crate) fn step(run: Run, team: i32) -> Run {
+pub(crate) fn step(rt: &impl Print, run: Run, team: i32) -> io::Result<Run> {
     let s = run.lesson;
     let l = s.ledger;
     let had = s.granted;
@@ -114,9 +131,17 @@ pub(crate) fn step(run: Run, team: i32) -> Run {
     let after = done.records;
     let next = round.ledger;
     let a = round.answer;
-    let then = on(had, next, numbers::natural(team), round.kind, round.node, a);
-    Run {
+    let then = on(
+        rt,
+        had,
+        next,
+        numbers::natural(team),
+        round.kind,
+        round.node,
+        a,
+    )?;
+    Ok(Run {
         lesson: then,
         records: after,
-    }
+    })
 }

@@ -1,7 +1,7 @@
 // Prints what was asked, and a listing as three rows: the sheets in the order of the listing, who was granted each, and the node that lists it.
-use libc::STDOUT_FILENO;
 use rules::{Answer, Ledger, Request};
 use sheet_order::{Piece, Pieces};
+use std::io;
 
 const SHEET: u32 = 0;
 
@@ -9,101 +9,99 @@ const TEAM: u32 = 1;
 
 const NODE: u32 = 2;
 
-pub(crate) fn words(text: &[u8]) {
-    io::write_all(STDOUT_FILENO, text);
+pub(crate) fn words(rt: &impl Print, text: &str) -> io::Result<()> {
+    print!(rt; "{text}")
 }
 
-fn number(n: u32) {
-    words(b" ");
-    io::print_decimal(STDOUT_FILENO, n as u64);
+fn number(rt: &impl Print, n: u32) -> io::Result<()> {
+    print!(rt; " {n}")
 }
 
 // A number with the spaces that set it under another one, where both are below 100.
-fn aligned(n: u32) {
+fn aligned(rt: &impl Print, n: u32) -> io::Result<()> {
     if n < 10 {
-        words(b" ");
+        words(rt, " ")?;
     }
-    number(n);
+    number(rt, n)
 }
 
-fn end() {
-    words(b"\n");
+fn end(rt: &impl Print) -> io::Result<()> {
+    words(rt, "\n")
 }
 
-fn verb(kind: u32) {
+fn verb(rt: &impl Print, kind: u32) -> io::Result<()> {
     match kind {
-        Request::OWN => words(b" takes"),
-        Request::ADVANCE => words(b" claims from"),
-        Request::MARK => words(b" marks"),
-        Request::EXPAND => words(b" splits"),
-        _ => words(b" looks at"),
+        Request::OWN => words(rt, " takes"),
+        Request::ADVANCE => words(rt, " claims from"),
+        Request::MARK => words(rt, " marks"),
+        Request::EXPAND => words(rt, " splits"),
+        _ => words(rt, " looks at"),
     }
 }
 
 // Who asked for what, and whether it was granted. A step that is refused asks for nothing.
-pub(crate) fn asked(team: u32, kind: u32, node: u32, a: Answer) {
-    words(b"team");
-    number(team);
+pub(crate) fn asked(rt: &impl Print, team: u32, kind: u32, node: u32, a: Answer) -> io::Result<()> {
+    words(rt, "team")?;
+    number(rt, team)?;
     if kind == 0 {
-        words(b" makes no request");
+        words(rt, " makes no request")?;
     } else {
-        verb(kind);
-        words(b" node");
-        number(node);
+        verb(rt, kind)?;
+        words(rt, " node")?;
+        number(rt, node)?;
     }
     if a.code == 0 {
-        words(b" granted\n");
+        words(rt, " granted\n")
     } else {
-        words(b" refused");
-        number(a.code);
-        end();
+        words(rt, " refused")?;
+        number(rt, a.code)?;
+        end(rt)
     }
 }
 
-fn cell(p: Piece, sheet: u32, row: u32) {
+fn cell(rt: &impl Print, p: Piece, sheet: u32, row: u32) -> io::Result<()> {
     match row {
-        SHEET => aligned(sheet),
-        TEAM => aligned(p.team),
-        _ => aligned(p.node),
+        SHEET => aligned(rt, sheet),
+        TEAM => aligned(rt, p.team),
+        _ => aligned(rt, p.node),
     }
 }
 
 // A cell for each sheet of a piece.
-fn cells(p: Piece, row: u32) {
-    let mut sheet = p.from;
-    while sheet < p.to {
-        cell(p, sheet, row);
-        sheet += 1;
+fn cells(rt: &impl Print, p: Piece, row: u32) -> io::Result<()> {
+    for sheet in p.from..p.to {
+        cell(rt, p, sheet, row)?;
     }
+    Ok(())
 }
 
 // The slots behind the last piece have no sheets.
-fn row_of(listing: Pieces, row: u32) {
-    let mut i = 0;
-    while i < Pieces::MOST {
-        cells(listing.items[i], row);
-        i += 1;
+fn row_of(rt: &impl Print, listing: Pieces, row: u32) -> io::Result<()> {
+    for p in &listing.items {
+        cells(rt, *p, row)?;
     }
-    end();
+    end(rt)
 }
 
 // How to read a listing.
-pub(crate) fn legend() {
-    words(b"sheet is what the root lists in its order\n");
-    words(b"team is who was granted the sheet and 0 where it is unclaimed\n");
-    words(b"node is the node that lists it\n");
+pub(crate) fn legend(rt: &impl Print) -> io::Result<()> {
+    words(rt, "sheet is what the root lists in its order\n")?;
+    words(
+        rt,
+        "team is who was granted the sheet and 0 where it is unclaimed\n",
+    )?;
+    words(rt, "node is the node that lists it\n")
 }
 
-pub(crate) fn listing(l: Ledger, granted: Pieces) {
+pub(crate) fn listing(rt: &impl Print, l: Ledger, granted: Pieces) -> io::Result<()> {
     let told = sheet_order::in_order(l, granted);
     if told.count == 0 {
-        words(b"  no listing\n");
-        return;
+        return words(rt, "  no listing\n");
     }
-    words(b"  sheet");
-    row_of(told, SHEET);
-    words(b"   team");
-    row_of(told, TEAM);
-    words(b"   node");
-    row_of(told, NODE);
+    words(rt, "  sheet")?;
+    row_of(rt, told, SHEET)?;
+    words(rt, "   team")?;
+    row_of(rt, told, TEAM)?;
+    words(rt, "   node")?;
+    row_of(rt, told, NODE)
 }

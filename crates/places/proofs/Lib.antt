@@ -1,2 +1,2 @@
--- What the code of the places needs of the definitions.
+-- Within the limits the code of the places says what the definitions say.
 pub mod Laws

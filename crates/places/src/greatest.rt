@@ -45,6 +45,7 @@ fn greater_of(old: Memory, new: Memory) -> Memory
 }
 
 // What is remembered is taken or marked as it was seen, however long ago.
+#[tactic(auto, unfolding(steps::specs::Places::chosen))]
 fn choose(t: Team) -> Team
     ensures { result ≡ chosen (clipped_team t) t.memory }
 {
@@ -74,6 +75,7 @@ fn sight(number: u32, t: Team, a: Answer) -> Team
     }
 }
 
+#[tactic(auto, unfolding(steps::specs::Places::greatest_seek))]
 pub(crate) fn seek(number: u32, t: Team, a: Answer) -> Team
     ensures { result ≡ greatest_seek number (clipped_team t) a }
 {
@@ -85,6 +87,7 @@ pub(crate) fn seek(number: u32, t: Team, a: Answer) -> Team
 }
 
 // Any refusal starts a new search.
+#[tactic(auto, unfolding(steps::specs::Places::greatest_mark))]
 pub(crate) fn mark(t: Team, a: Answer) -> Team
     ensures { result ≡ greatest_mark (clipped_team t) a }
 {

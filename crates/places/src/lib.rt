@@ -41,6 +41,7 @@ pub fn has_stopped(p: Place) -> bool
 }
 
 // The request that a team makes at its place. One that has stopped makes none, which is a request of kind 0.
+#[tactic(auto, unfolding(crate::specs::Clipped::clipped_asks))]
 pub fn asks_of(number: u32, t: Team) -> Request
     ensures { result ≡ clipped_asks number t }
 {
@@ -86,6 +87,7 @@ fn sight_moves(number: u32, t: Team, a: Answer) -> Team
     }
 }
 
+#[tactic(auto, unfolding(steps::specs::Places::seek_moves))]
 fn seek_moves(number: u32, t: Team, a: Answer) -> Team
     ensures { result ≡ seek_moves number (clipped_team t) a }
 {
@@ -96,6 +98,7 @@ fn seek_moves(number: u32, t: Team, a: Answer) -> Team
     }
 }
 
+#[tactic(auto, unfolding(steps::specs::Places::take_moves))]
 fn take_moves(t: Team, a: Answer) -> Team
     ensures { result ≡ take_moves (clipped_team t) a }
 {
@@ -117,6 +120,7 @@ fn held_moves(number: u32, t: Team, a: Answer) -> Team
     }
 }
 
+#[tactic(auto, unfolding(steps::specs::Places::work_moves))]
 fn work_moves(number: u32, t: Team, a: Answer) -> Team
     ensures { result ≡ work_moves number (clipped_team t) (clipped_answer a) }
 {
@@ -137,6 +141,7 @@ fn grown_size(cap: u32, t: Team) -> u32
     if size <= cap / 2 { 2 * size } else { cap }
 }
 
+#[tactic(auto, unfolding(steps::specs::Places::claim_moves))]
 fn claim_moves(cap: u32, t: Team, a: Answer) -> Team
     ensures { result ≡ claim_moves cap (clipped_team t) a }
 {
@@ -148,6 +153,7 @@ fn claim_moves(cap: u32, t: Team, a: Answer) -> Team
     }
 }
 
+#[tactic(auto, unfolding(steps::specs::Places::mark_moves))]
 fn mark_moves(t: Team, a: Answer) -> Team
     ensures { result ≡ mark_moves (clipped_team t) a }
 {
@@ -161,6 +167,7 @@ fn mark_moves(t: Team, a: Answer) -> Team
 
 // ---- by the record's program
 
+#[tactic(auto, unfolding(steps::specs::Places::search_by, steps::specs::Places::seek_moves, steps::specs::Places::greatest_seek))]
 fn search_seek(number: u32, t: Team, a: Answer) -> Team
     ensures { result ≡ (search_of t).seeking number (clipped_team t) (clipped_answer a) }
 {
@@ -171,6 +178,7 @@ fn search_seek(number: u32, t: Team, a: Answer) -> Team
     }
 }
 
+#[tactic(auto, unfolding(steps::specs::Places::search_by, steps::specs::Places::mark_moves, steps::specs::Places::greatest_mark))]
 fn search_mark(t: Team, a: Answer) -> Team
     ensures { result ≡ (search_of t).marking (clipped_team t) (clipped_answer a) }
 {
@@ -182,6 +190,7 @@ fn search_mark(t: Team, a: Answer) -> Team
 }
 
 // A team that comes second to a split is told where the children are, as the first is.
+#[tactic(auto, unfolding(steps::specs::Places::split_moves))]
 fn split_moves(t: Team, a: Answer) -> Team
     ensures { result ≡ split_moves (clipped_team t) (clipped_answer a) }
 {
@@ -194,6 +203,7 @@ fn split_moves(t: Team, a: Answer) -> Team
 }
 
 // Where an answer sends a team from its place.
+#[tactic(auto, unfolding(crate::specs::Clipped::clipped_moves, steps::specs::Places::take_moves, steps::specs::Places::work_moves, steps::specs::Places::claim_moves, steps::specs::Places::split_moves))]
 pub fn moves_of(number: u32, cap: u32, t: Team, a: Answer) -> Team
     ensures { result ≡ clipped_moves number cap t a }
 {

@@ -3,6 +3,7 @@
 #![tactic(auto)]
 
 use rules::{Ledger, Opening};
+use std::io;
 use steps::{Program, Team};
 
 mod cases;
@@ -33,52 +34,62 @@ fn begin() -> Run {
     }
 }
 
-fn one(run: Run, team: i32) -> Run {
+fn one(rt: &impl Print, run: Run, team: i32) -> io::Result<Run> {
     let l = run.ledger;
     let records = run.records;
     let done = rounds::step_in(l, team, 4, records);
     let round = done.round;
     let after = done.records;
     let answer = round.answer;
-    show::asked(team, round.kind, round.node, answer);
+    show::asked(rt, team, round.kind, round.node, answer)?;
     let first = after[0];
     let second = after[1];
-    show::bar();
-    show::record(first);
-    show::bar();
-    show::record(second);
-    show::end();
+    show::bar(rt)?;
+    show::record(rt, first)?;
+    show::bar(rt)?;
+    show::record(rt, second)?;
+    show::end(rt)?;
     let next = round.ledger;
-    Run {
+    Ok(Run {
         ledger: next,
         records: after,
-    }
+    })
 }
 
-fn six(run: Run, a: i32, b: i32, c: i32, d: i32, e: i32, f: i32) -> Run {
-    one(one(one(one(one(one(run, a), b), c), d), e), f)
+fn six(
+    rt: &impl Print,
+    run: Run,
+    a: i32,
+    b: i32,
+    c: i32,
+    d: i32,
+    e: i32,
+    f: i32,
+) -> io::Result<Run> {
+    let two = one(rt, one(rt, run, a)?, b)?;
+    let four = one(rt, one(rt, two, c)?, d)?;
+    one(rt, one(rt, four, e)?, f)
 }
 
-fn schedule() {
-    show::words(b"0 5 2 4 7\n");
-    let a = six(begin(), 1, 1, 1, 1, 2, 1);
-    let b = six(a, 2, 1, 2, 1, 1, 2);
-    let c = six(b, 2, 2, 1, 1, 1, 0);
+fn schedule(rt: &impl Print) -> io::Result<()> {
+    show::words(rt, "0 5 2 4 7\n")?;
+    let a = six(rt, begin(), 1, 1, 1, 1, 2, 1)?;
+    let b = six(rt, a, 2, 1, 2, 1, 1, 2)?;
+    let c = six(rt, b, 2, 2, 1, 1, 1, 0)?;
     let u = ledger::count(c.ledger);
-    io::print_decimal(libc::STDOUT_FILENO, u.count);
-    show::words(b" left\n");
+    println!(rt; "{} left", u.count)
 }
 
-fn main() {
-    schedule();
-    cases::seek();
-    cases::take();
-    cases::work();
-    cases::claim();
-    cases::mark();
-    cases::split();
-    cases::stopped();
-    cases::limits();
-    cases::refused();
-    greatest::all();
+fn main(rt: HostRuntime) -> io::Result<()> {
+    schedule(&rt)?;
+    cases::seek(&rt)?;
+    cases::take(&rt)?;
+    cases::work(&rt)?;
+    cases::claim(&rt)?;
+    cases::mark(&rt)?;
+    cases::split(&rt)?;
+    cases::stopped(&rt)?;
+    cases::limits(&rt)?;
+    cases::refused(&rt)?;
+    greatest::all(&rt)
 }

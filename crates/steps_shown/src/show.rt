@@ -1,103 +1,92 @@
 // Prints records and steps: place, node, position, side and size of a record, and by program 2 what it remembers; kind and node of a step's request, and the six numbers of its answer.
-use libc::STDOUT_FILENO;
 use rules::Answer;
+use std::io;
 use steps::{Memory, Place, Program, Side, Team};
 
-fn number(n: u32) {
-    io::write_all(STDOUT_FILENO, b" ");
-    io::print_decimal(STDOUT_FILENO, n as u64);
+fn number(rt: &impl Print, n: u32) -> io::Result<()> {
+    print!(rt; " {n}")
 }
 
-fn signed(p: i32) {
-    io::write_all(STDOUT_FILENO, b" ");
-    if numbers::is_negative(p) {
-        io::write_all(STDOUT_FILENO, b"-");
-        io::print_decimal(STDOUT_FILENO, numbers::position_of(p) as u64 + 1);
-    } else {
-        io::print_decimal(STDOUT_FILENO, numbers::position_of(p) as u64);
-    }
+fn signed(rt: &impl Print, p: i32) -> io::Result<()> {
+    print!(rt; " {p}")
 }
 
-fn place(p: Place) {
+fn place(rt: &impl Print, p: Place) -> io::Result<()> {
     match p {
-        Place::Seek => io::write_all(STDOUT_FILENO, b" seek"),
-        Place::Take => io::write_all(STDOUT_FILENO, b" take"),
-        Place::Work => io::write_all(STDOUT_FILENO, b" work"),
-        Place::Claim => io::write_all(STDOUT_FILENO, b" claim"),
-        Place::Mark => io::write_all(STDOUT_FILENO, b" mark"),
-        Place::Split => io::write_all(STDOUT_FILENO, b" split"),
-        Place::Stopped => io::write_all(STDOUT_FILENO, b" stopped"),
-    };
-}
-
-fn side(d: Side) {
-    match d {
-        Side::Left => io::write_all(STDOUT_FILENO, b" left"),
-        Side::Right => io::write_all(STDOUT_FILENO, b" right"),
-    };
-}
-
-pub(crate) fn record(t: Team) {
-    let p = t.place;
-    let d = t.side;
-    place(p);
-    number(t.node);
-    signed(t.position);
-    side(d);
-    number(t.size);
-    let g = t.program;
-    let m = t.memory;
-    match g {
-        Program::Scan => {}
-        Program::Greatest => memory(m),
+        Place::Seek => words(rt, " seek"),
+        Place::Take => words(rt, " take"),
+        Place::Work => words(rt, " work"),
+        Place::Claim => words(rt, " claim"),
+        Place::Mark => words(rt, " mark"),
+        Place::Split => words(rt, " split"),
+        Place::Stopped => words(rt, " stopped"),
     }
 }
 
-fn memory(m: Memory) {
+fn side(rt: &impl Print, d: Side) -> io::Result<()> {
+    match d {
+        Side::Left => words(rt, " left"),
+        Side::Right => words(rt, " right"),
+    }
+}
+
+pub(crate) fn record(rt: &impl Print, t: Team) -> io::Result<()> {
+    place(rt, t.place)?;
+    number(rt, t.node)?;
+    signed(rt, t.position)?;
+    side(rt, t.side)?;
+    number(rt, t.size)?;
+    match t.program {
+        Program::Scan => Ok(()),
+        Program::Greatest => memory(rt, t.memory),
+    }
+}
+
+fn memory(rt: &impl Print, m: Memory) -> io::Result<()> {
     match m {
-        Memory::Nothing => words(b" remembers nothing"),
+        Memory::Nothing => words(rt, " remembers nothing"),
         Memory::Free(n, rest) => {
-            words(b" remembers free");
-            number(n);
-            number(rest);
+            words(rt, " remembers free")?;
+            number(rt, n)?;
+            number(rt, rest)
         }
         Memory::Held(n, rest, p) => {
-            words(b" remembers held");
-            number(n);
-            number(rest);
-            number(p);
+            words(rt, " remembers held")?;
+            number(rt, n)?;
+            number(rt, rest)?;
+            number(rt, p)
         }
     }
 }
 
-pub(crate) fn asked(team: i32, kind: u32, node: u32, a: Answer) {
-    io::write_all(STDOUT_FILENO, b"team");
-    signed(team);
-    io::write_all(STDOUT_FILENO, b" asks");
-    number(kind);
-    number(node);
-    io::write_all(STDOUT_FILENO, b" gets");
-    number(a.code);
-    number(a.state);
-    number(a.from);
-    number(a.to);
-    number(a.owner);
-    number(a.left);
+pub(crate) fn asked(rt: &impl Print, team: i32, kind: u32, node: u32, a: Answer) -> io::Result<()> {
+    words(rt, "team")?;
+    signed(rt, team)?;
+    words(rt, " asks")?;
+    number(rt, kind)?;
+    number(rt, node)?;
+    words(rt, " gets")?;
+    number(rt, a.code)?;
+    number(rt, a.state)?;
+    number(rt, a.from)?;
+    number(rt, a.to)?;
+    number(rt, a.owner)?;
+    number(rt, a.left)
 }
 
-pub(crate) fn capped(cap: i32) {
-    io::write_all(STDOUT_FILENO, b" cap");
-    signed(cap);
+pub(crate) fn capped(rt: &impl Print, cap: i32) -> io::Result<()> {
+    words(rt, " cap")?;
+    signed(rt, cap)
 }
 
-pub(crate) fn bar() {
-    io::write_all(STDOUT_FILENO, b" |");
+pub(crate) fn bar(rt: &impl Print) -> io::Result<()> {
+    words(rt, " |")
 }
 
-pub(crate) fn words(text: &[u8]) {
-    io::write_all(STDOUT_FILENO, text);
+pub(crate) fn words(rt: &impl Print, text: &str) -> io::Result<()> {
+    print!(rt; "{text}")
 }
 
-pub(crate) fn end() {
-    io::write_all(STDOUT_FILENO, b"\n");
+pub(crate) fn end(rt: &impl Print) -> io::Result<()> {
+    words(rt, "\n")
 }

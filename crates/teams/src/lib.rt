@@ -43,6 +43,7 @@ fn unmoved_by(code: u32, l: Ledger, t: Team) -> Stepped
 }
 
 // The record after the answer, with what was asked.
+#[tactic(auto, using(nodes::proofs::Laws::natural_held, crate::proofs::Laws::hear_made))]
 fn hear(number: u32, cap: u32, t: Team, q: Request, a: Answer, c: Change) -> Turned
     ensures { result ≡ heard number cap t q a c }
 {
@@ -59,6 +60,7 @@ fn hear(number: u32, cap: u32, t: Team, q: Request, a: Answer, c: Change) -> Tur
 }
 
 // A step that makes its request, which tests the ledger: 1 is the code of no other refusal.
+#[tactic(auto, using(crate::proofs::Laws::ask_made))]
 fn ask(number: u32, cap: u32, l: Ledger, t: Team) -> Stepped
     ensures { result ≡ clipped_step number cap l t }
 {
@@ -83,6 +85,7 @@ fn ask(number: u32, cap: u32, l: Ledger, t: Team) -> Stepped
 
 // A step of the team with this number and this record, in a run with this cap. It is refused by 1, 3 and 19, in this order; with one
 // record by value none can be too few. The ledger is tested once: by the request, or here where none is made.
+#[tactic(auto, using(numbers::proofs::Signed::held, forms::proofs::Laws::length_under, crate::proofs::Laws::rests_by, crate::proofs::Laws::goes_by, crate::proofs::Laws::step_rests, crate::proofs::Laws::step_made))]
 pub fn step(l: Ledger, number: i32, cap: i32, team: Team) -> Stepped
     ensures { result ≡ solo_step l number cap team }
 {
@@ -113,6 +116,7 @@ fn still_turn(t: Team) -> Turned
 
 // The step without its ledger, by the one node that its request names: for a run that holds the ledger itself, and knows that it is well
 // formed and the record within its limits.
+#[tactic(auto, using(crate::proofs::Laws::turn_rests, crate::proofs::Laws::turn_made))]
 pub fn turn(number: u32, cap: u32, t: Team, v: View) -> Turned
     ensures { result ≡ clipped_turn number cap t v }
 {
