@@ -4,9 +4,8 @@
 
 ghost use Rattle.std.specs.Prelude.{◌≡◌, ◌≤◌, length};
 
-use std::io;
-
 use rules::Opening;
+use std::io;
 
 fn number(rt: &impl Print, n: u64) -> io::Result<()> {
     print!(rt; " {n}")
@@ -65,17 +64,37 @@ fn granted(rt: &impl Print) -> io::Result<()> {
     show(rt, "no line end at the end", b"0 5 2 4 7\n1 2")?;
     show(rt, "no line end after the header", b"0 5 2 4 7")?;
     show(rt, "CR and tab", b"0\t5 2\r4 7\r\n1\t2\r\n")?;
-    show(rt, "a comment glued to a number", b"0 5 2 4 7#7\n1#2\n2 # 1\n")?;
-    show(rt, "a comment before the header", b"# 1 2 3\n\n  # x\n0 5 2 4 7 # first\n2 2")?;
+    show(
+        rt,
+        "a comment glued to a number",
+        b"0 5 2 4 7#7\n1#2\n2 # 1\n",
+    )?;
+    show(
+        rt,
+        "a comment before the header",
+        b"# 1 2 3\n\n  # x\n0 5 2 4 7 # first\n2 2",
+    )?;
     Ok(())
 }
 
 // Numbers, lines and comments that are granted.
 fn granted_numbers(rt: &impl Print) -> io::Result<()> {
     show(rt, "CR in a comment", b"0 5 2 4 7 # a\r1\n2")?;
-    show(rt, "NUL and bytes over 127 in a comment", b"0 5 2 4 7 #\x00\x80\xff\n1")?;
-    show(rt, "leading zeros", b"0000000000 0000000005 002 4 7\n01 0000000002")?;
-    show(rt, "the largest number", b"2147483647 2147483647 32 4096 1023\n32")?;
+    show(
+        rt,
+        "NUL and bytes over 127 in a comment",
+        b"0 5 2 4 7 #\x00\x80\xff\n1",
+    )?;
+    show(
+        rt,
+        "leading zeros",
+        b"0000000000 0000000005 002 4 7\n01 0000000002",
+    )?;
+    show(
+        rt,
+        "the largest number",
+        b"2147483647 2147483647 32 4096 1023\n32",
+    )?;
     show(rt, "many lines", b"0 5 2 4 7\n\n1\n\n2 1\n\n")?;
     show(rt, "all of the area", b"0 5 2 4 7\n1 2 1 2")?;
     Ok(())
@@ -129,7 +148,11 @@ fn refused_numbers(rt: &impl Print) -> io::Result<()> {
     show(rt, "23, eleven digits", b"0 5 2 4 7\n00000000001")?;
     show(rt, "23, 2147483648", b"0 2147483648 2 4 7")?;
     show(rt, "23, ten nines", b"0 5 2 4 7\n1\n9999999999")?;
-    show(rt, "23, thirty digits", b"0 5 2 4 7\n123456789012345678901234567890")?;
+    show(
+        rt,
+        "23, thirty digits",
+        b"0 5 2 4 7\n123456789012345678901234567890",
+    )?;
     show(rt, "23 before the x", b"0 5 2 4 7\n99999999999x")?;
     Ok(())
 }
@@ -216,7 +239,13 @@ fn longest_refused(rt: &impl Print) -> io::Result<()> {
     long(rt, "21 before 20", b' ', b"0 5 0 4 7\n", 65536)?;
     long(rt, "26 in 65,535 bytes", b' ', b"0 5 2 4 7\n3", 65535)?;
     long(rt, "21 before 26", b' ', b"0 5 2 4 7\n3", 65536)?;
-    long(rt, "27 in 65,535 bytes", b' ', b"0 5 2 4 7\n1 1 1 1 1", 65535)?;
+    long(
+        rt,
+        "27 in 65,535 bytes",
+        b' ',
+        b"0 5 2 4 7\n1 1 1 1 1",
+        65535,
+    )?;
     long(rt, "21 before 27", b' ', b"0 5 2 4 7\n1 1 1 1 1", 65536)?;
     Ok(())
 }
