@@ -2,28 +2,45 @@
 // and the whole area afterwards.
 #![tactic(auto)]
 
-use libc::STDOUT_FILENO;
 use line_rules::Written;
+use std::io;
 
-fn show(written: Written, area: &[u8]) {
-    io::print_decimal(STDOUT_FILENO, written.code as u64);
-    io::write_all(STDOUT_FILENO, b" ");
-    io::print_decimal(STDOUT_FILENO, written.length as u64);
-    io::write_all(STDOUT_FILENO, b" ");
-    io::write_all(STDOUT_FILENO, area);
-    io::write_all(STDOUT_FILENO, b"\n");
+fn show(rt: &impl Print, written: Written, area: &[u8]) -> io::Result<()> {
+    let code = written.code;
+    let length = written.length;
+    print!(rt; "{code} {length} ")?;
+    rt.write_all(area)?;
+    println!(rt; "")
 }
 
-fn open(at: usize, start: i32, until: i32, teams: i32, cap: i32, nodes: i32) {
+fn open(
+    rt: &impl Print,
+    at: usize,
+    start: i32,
+    until: i32,
+    teams: i32,
+    cap: i32,
+    nodes: i32,
+) -> io::Result<()> {
     let mut dots = [b'.'; 44];
     let area: &mut [u8] = &mut dots;
     if at <= area.len() {
         let written = lines::open_line(&mut area[at..], start, until, teams, cap, nodes);
-        show(written, area);
+        show(rt, written, area)?;
     }
+    Ok(())
 }
 
-fn open_with(at: usize, start: i32, until: i32, teams: i32, cap: i32, nodes: i32, program: i32) {
+fn open_with(
+    rt: &impl Print,
+    at: usize,
+    start: i32,
+    until: i32,
+    teams: i32,
+    cap: i32,
+    nodes: i32,
+    program: i32,
+) -> io::Result<()> {
     let mut dots = [b'.'; 44];
     let area: &mut [u8] = &mut dots;
     if at <= area.len() {
@@ -36,101 +53,111 @@ fn open_with(at: usize, start: i32, until: i32, teams: i32, cap: i32, nodes: i32
             nodes,
             program,
         );
-        show(written, area);
+        show(rt, written, area)?;
     }
+    Ok(())
 }
 
-fn batch(at: usize, team: i32, node: i32, from: i32, to: i32) {
+fn batch(rt: &impl Print, at: usize, team: i32, node: i32, from: i32, to: i32) -> io::Result<()> {
     let mut dots = [b'.'; 44];
     let area: &mut [u8] = &mut dots;
     if at <= area.len() {
         let written = lines::batch_line(&mut area[at..], team, node, from, to);
-        show(written, area);
+        show(rt, written, area)?;
     }
+    Ok(())
 }
 
-fn split(at: usize, node: i32, left: i32, middle: i32) {
+fn split(rt: &impl Print, at: usize, node: i32, left: i32, middle: i32) -> io::Result<()> {
     let mut dots = [b'.'; 44];
     let area: &mut [u8] = &mut dots;
     if at <= area.len() {
         let written = lines::split_line(&mut area[at..], node, left, middle);
-        show(written, area);
+        show(rt, written, area)?;
     }
+    Ok(())
 }
 
-fn left(at: usize, count: i32, stopped: i32) {
+fn left(rt: &impl Print, at: usize, count: i32, stopped: i32) -> io::Result<()> {
     let mut dots = [b'.'; 44];
     let area: &mut [u8] = &mut dots;
     if at <= area.len() {
         let written = lines::left_line(&mut area[at..], count, stopped);
-        show(written, area);
+        show(rt, written, area)?;
     }
+    Ok(())
 }
 
-fn refused(at: usize, code: i32, line: i32) {
+fn refused(rt: &impl Print, at: usize, code: i32, line: i32) -> io::Result<()> {
     let mut dots = [b'.'; 44];
     let area: &mut [u8] = &mut dots;
     if at <= area.len() {
         let written = lines::refused_line(&mut area[at..], code, line);
-        show(written, area);
+        show(rt, written, area)?;
     }
+    Ok(())
 }
 
 // Lines with bytes before and after them, which stay, and numbers of one to ten digits.
-fn with_room() {
-    open(0, 0, 5, 2, 4, 7);
-    open_with(0, 0, 5, 2, 4, 7, 1);
-    open_with(3, 0, 5, 2, 4, 7, 2);
-    batch(0, 1, 1, 0, 1);
-    split(3, 1, 2, 3);
-    left(3, 2, 0);
-    refused(3, 24, 0);
-    batch(0, 0, 9, 10, 2147483647);
-    split(0, 99, 100, 1000);
-    left(0, 2147483646, 32);
-    refused(0, 22, 65536);
+fn with_room(rt: &impl Print) -> io::Result<()> {
+    open(rt, 0, 0, 5, 2, 4, 7)?;
+    open_with(rt, 0, 0, 5, 2, 4, 7, 1)?;
+    open_with(rt, 3, 0, 5, 2, 4, 7, 2)?;
+    batch(rt, 0, 1, 1, 0, 1)?;
+    split(rt, 3, 1, 2, 3)?;
+    left(rt, 3, 2, 0)?;
+    refused(rt, 3, 24, 0)?;
+    batch(rt, 0, 0, 9, 10, 2147483647)?;
+    split(rt, 0, 99, 100, 1000)?;
+    left(rt, 0, 2147483646, 32)?;
+    refused(rt, 0, 22, 65536)?;
+    Ok(())
 }
 
 // Areas that end with the line: the longest of each kind.
-fn exact() {
-    open(4, 2147483647, 2147483647, 32, 4096, 1023);
-    open_with(2, 2147483647, 2147483647, 32, 4096, 1023, 2);
-    batch(8, 32, 1023, 2147483647, 2147483647);
-    split(17, 1023, 1022, 2147483646);
-    left(17, 2147483647, 32);
-    refused(22, 28, 2147483647);
+fn exact(rt: &impl Print) -> io::Result<()> {
+    open(rt, 4, 2147483647, 2147483647, 32, 4096, 1023)?;
+    open_with(rt, 2, 2147483647, 2147483647, 32, 4096, 1023, 2)?;
+    batch(rt, 8, 32, 1023, 2147483647, 2147483647)?;
+    split(rt, 17, 1023, 1022, 2147483646)?;
+    left(rt, 17, 2147483647, 32)?;
+    refused(rt, 22, 28, 2147483647)?;
+    Ok(())
 }
 
 // The same lines in areas one byte shorter, and in no area at all: 28.
-fn too_short() {
-    open(5, 2147483647, 2147483647, 32, 4096, 1023);
-    open_with(3, 2147483647, 2147483647, 32, 4096, 1023, 2);
-    batch(9, 32, 1023, 2147483647, 2147483647);
-    split(18, 1023, 1022, 2147483646);
-    left(18, 2147483647, 32);
-    refused(23, 28, 2147483647);
-    left(44, 0, 0);
+fn too_short(rt: &impl Print) -> io::Result<()> {
+    open(rt, 5, 2147483647, 2147483647, 32, 4096, 1023)?;
+    open_with(rt, 3, 2147483647, 2147483647, 32, 4096, 1023, 2)?;
+    batch(rt, 9, 32, 1023, 2147483647, 2147483647)?;
+    split(rt, 18, 1023, 1022, 2147483646)?;
+    left(rt, 18, 2147483647, 32)?;
+    refused(rt, 23, 28, 2147483647)?;
+    left(rt, 44, 0, 0)?;
+    Ok(())
 }
 
 // A negative number in any place: 25, and 25 also where the area is too short.
-fn negative() {
-    open(0, -1, 5, 2, 4, 7);
-    open(0, 0, 5, 2, 4, -1);
-    open_with(0, -1, 5, 2, 4, 7, 1);
-    open_with(0, 0, 5, 2, 4, 7, -1);
-    batch(0, 1, -2147483648, 0, 1);
-    split(0, 1, 2, -3);
-    left(0, -2, 0);
-    left(0, 2, -1);
-    refused(0, 24, -1);
-    open(44, 0, 5, -2, 4, 7);
-    open_with(44, 0, 5, 2, 4, 7, -2);
-    left(44, 0, -1);
+fn negative(rt: &impl Print) -> io::Result<()> {
+    open(rt, 0, -1, 5, 2, 4, 7)?;
+    open(rt, 0, 0, 5, 2, 4, -1)?;
+    open_with(rt, 0, -1, 5, 2, 4, 7, 1)?;
+    open_with(rt, 0, 0, 5, 2, 4, 7, -1)?;
+    batch(rt, 0, 1, -2147483648, 0, 1)?;
+    split(rt, 0, 1, 2, -3)?;
+    left(rt, 0, -2, 0)?;
+    left(rt, 0, 2, -1)?;
+    refused(rt, 0, 24, -1)?;
+    open(rt, 44, 0, 5, -2, 4, 7)?;
+    open_with(rt, 44, 0, 5, 2, 4, 7, -2)?;
+    left(rt, 44, 0, -1)?;
+    Ok(())
 }
 
-fn main() {
-    with_room();
-    exact();
-    too_short();
-    negative();
+fn main(rt: HostRuntime) -> io::Result<()> {
+    with_room(&rt)?;
+    exact(&rt)?;
+    too_short(&rt)?;
+    negative(&rt)?;
+    Ok(())
 }

@@ -25,6 +25,7 @@ fn has_room(steps: usize, bytes: usize) -> bool
 }
 
 // The listing of a text at the front of `out`, which has room for it, and its length.
+#[tactic(auto, using(crate::proofs::Reading::count_fits, crate::proofs::Reading::steps_are, crate::proofs::Reading::runnable, crate::proofs::Reading::refused_room, crate::proofs::Reading::refused_whole, crate::proofs::Reading::granted_whole))]
 fn write(text: &[u8], schedule: &mut [i32], out: &mut [u8]) -> usize
     requires { room_for (length schedule.old) ≤ length out.old }
     ensures value { result ≡ length (bytes_of (lines_of (length schedule.old) text.now)) }
@@ -40,6 +41,7 @@ fn write(text: &[u8], schedule: &mut [i32], out: &mut [u8]) -> usize
 
 // The listing of a text at the front of `out`. The area `schedule` is for the text's team numbers. A call is refused, with 28, where `out`
 // is too short for the longest listing that so many numbers can have; it then changes neither area.
+#[tactic(auto, unfolding(listing_rules::specs::Lent::answer_to, listing_rules::specs::Lent::out_after, listing_rules::specs::Lent::schedule_after))]
 pub fn list(text: &[u8], schedule: &mut [i32], out: &mut [u8]) -> Listed
     ensures value { result ≡ answer_to (length schedule.old) text.now (length out.old) }
     ensures out_after { out.new ≡ out_after (length schedule.old) text.now out.old }

@@ -10,6 +10,7 @@ use rules::{Opening, Request};
 use steps::Turned;
 
 // The open line by its numbers. One of five has no program's.
+#[tactic(auto, using(crate::proofs::Writing::open_five, crate::proofs::Writing::open_six))]
 fn open_by(
     out: &mut [u8],
     start: u64,
@@ -29,6 +30,7 @@ fn open_by(
 }
 
 // The open line: the header's numbers, with the program's where it has one.
+#[tactic(auto, using(numbers::proofs::Signed::held, crate::proofs::Writing::open_text))]
 pub(crate) fn head(out: &mut [u8], o: Opening, program: u32) -> usize
     requires { 0 + length (text (head_line o program)) ≤ length out.old }
     ensures { Put out.old 0 (text (head_line o program)) result out.new }
@@ -42,6 +44,7 @@ pub(crate) fn head(out: &mut [u8], o: Opening, program: u32) -> usize
 }
 
 // The line of a step, where it has one.
+#[tactic(auto, using(crate::proofs::Writing::batch_note, crate::proofs::Writing::split_note, crate::proofs::Writing::no_note))]
 pub(crate) fn note(out: &mut [u8], at: usize, team: u32, t: Turned) -> usize
     requires { at + length (bytes_of (note_of (pos team) t.kind t.node t.answer)) ≤ length out.old }
     ensures { Put out.old at (bytes_of (note_of (pos team) t.kind t.node t.answer)) result out.new }

@@ -46,6 +46,7 @@ fn stopped_one(t: Team) -> u32
     }
 }
 
+#[tactic(auto, using(listing_rules::proofs::Stopped::none_yet, listing_rules::proofs::Stopped::one_more, listing_rules::proofs::Stopped::one_at_most))]
 fn stopped_in(teams: [Team; Team::RECORDS], count: u32) -> u32
     requires { count ≤ max_teams }
     ensures { result ≡ stopped_to teams count }
@@ -62,6 +63,7 @@ fn stopped_in(teams: [Team; Team::RECORDS], count: u32) -> u32
 }
 
 // The left line, after the last step.
+#[tactic(auto, unfolding(rules::specs::Count::counted))]
 fn last(out: &mut [u8], at: usize, book: Ledger, teams: [Team; Team::RECORDS]) -> usize
     requires { (at + length (text (last_line (run_with book teams))) ≤ length out.old) × (well_formed book ≡ true) × (book.teams ≤ max_teams) }
     ensures { Put out.old at (text (last_line (run_with book teams))) result out.new }
@@ -72,6 +74,7 @@ fn last(out: &mut [u8], at: usize, book: Ledger, teams: [Team; Team::RECORDS]) -
 }
 
 // The lines of a run: the open line, a line for each step that has one, and the left line. They have room.
+#[tactic(auto, using(numbers::proofs::Signed::held, rules::proofs::Record::rules_back, listing_rules::proofs::Runs::Begun, listing_rules::proofs::Runs::Here, listing_rules::proofs::Runs::here, crate::proofs::Stepping::begun_with, crate::proofs::Stepping::none_stolen, crate::proofs::Stepping::seat_inside, crate::proofs::Stepping::taken, crate::proofs::Stepping::taken_is, crate::proofs::Stepping::Arms, crate::proofs::Stepping::arms, crate::proofs::Stepping::rests, crate::proofs::Writing::head_room, crate::proofs::Writing::note_room, crate::proofs::Writing::note_put, crate::proofs::Writing::last_room, crate::proofs::Writing::last_put), unfolding(steps::specs::Run::run_steps, listing_rules::specs::Steps::notes, listing_rules::specs::Listing::bytes_of))]
 pub(crate) fn run(schedule: &[i32], count: usize, o: Opening, program: u32, out: &mut [u8]) -> usize
     requires { Runnable o program count schedule.now × (room_for count ≤ length out.old) }
     ensures { Put out.old 0 (bytes_of (run_lines o program (take count schedule.now))) result out.new }

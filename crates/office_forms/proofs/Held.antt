@@ -1,8 +1,8 @@
 -- What an area tells that the tests let pass.
 use mathlib.Core.Path.{◌≡◌, refl, sym, ap, ◌∙◌}
 use mathlib.Core.Bool.{Bool, true, false, not, cond}
-use mathlib.Core.List.{List, ◌++◌}
-use Prim.Native.Nat.{ℕ, ◌+◌, ◌≤◌}
+use mathlib.Core.List.{List}
+use Prim.Native.Nat.{ℕ, ◌≤◌}
 use native.Mathlib.Omega.{arith}
 use lib.ListN.{length}
 use Rattle.rules.specs.declared.Ledger.{Ledger}
@@ -17,7 +17,6 @@ use Rattle.layout.specs.Areas.{decoded, over, too_short}
 use Rattle.layout.proofs.Slots.{slots_length}
 use Rattle.layout.proofs.Stored.{area_is}
 use Rattle.office_forms.specs.declared.Judged.{Judged}
-use Rattle.office_forms.specs.Measured.{Measured}
 use Rattle.office_forms.specs.Codes.{formed_code, judged_of}
 use Rattle.office_forms.proofs.Codes.{measured}
 

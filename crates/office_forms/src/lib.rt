@@ -47,6 +47,7 @@ fn root_ok(bytes: &[u8], teams: u32, room: u32, used: u32) -> bool
 }
 
 // The rules of node n that look at its children. They are read only where their numbers are in use: elsewhere no rule sees them.
+#[tactic(auto, using(crate::proofs::Table::no_family, crate::proofs::Table::far_family, crate::proofs::Table::family_here))]
 fn family_ok(bytes: &[u8], teams: u32, room: u32, used: u32, n: u32, x: Node) -> bool
     requires { Measured bytes.now teams room used }
     ensures { result ≡ family_rule (decoded bytes.now) used n x }
@@ -84,6 +85,7 @@ fn once_more(had: u8) -> u8
     if had < 2 { had + 1 } else { 2 }
 }
 
+#[tactic(auto, using(crate::proofs::Pairs::pairs_none, crate::proofs::Pairs::pairs_more))]
 fn pairs_ok(seen: [u8; HALVES], used: u32) -> bool
     requires { (used % 2 ≡ 1) × (used ≤ max_nodes) }
     ensures { result ≡ up_to (even_once seen) used }
@@ -101,6 +103,7 @@ fn pairs_ok(seen: [u8; HALVES], used: u32) -> bool
 }
 
 // The slots after those in use, up to the area's own room: the bytes past it are the caller's.
+#[tactic(auto, using(crate::proofs::Table::blank_none, crate::proofs::Table::blank_all))]
 fn blanks_ok(bytes: &[u8], teams: u32, room: u32, used: u32) -> bool
     requires { Measured bytes.now teams room used }
     ensures { result ≡ up_to (unused_rule (decoded bytes.now)) max_nodes }
@@ -124,6 +127,7 @@ struct Walked {
     stolen: u32,
 }
 
+#[tactic(auto, using(rules::proofs::States::at_most_one))]
 fn table_ok(bytes: &[u8], teams: u32, room: u32, used: u32) -> Walked
     requires { Measured bytes.now teams room used }
     ensures stolen_value { result.stolen ≡ sum_by stolen_of (take used (decoded bytes.now).nodes) }
@@ -158,6 +162,7 @@ fn table_ok(bytes: &[u8], teams: u32, room: u32, used: u32) -> Walked
 }
 
 // Whether the area is shorter than 20 bytes, or than its own nodes number says.
+#[tactic(auto, unfolding(layout::specs::Areas::too_short))]
 fn too_short(bytes: &[u8]) -> bool
     ensures { result ≡ too_short bytes.now }
 {
@@ -181,6 +186,7 @@ pub struct Judged {
     pub stolen: u32,
 }
 
+#[tactic(auto, using(crate::proofs::Codes::head_inside, crate::proofs::Codes::measured, crate::proofs::Codes::judged_37, crate::proofs::Codes::judged_1, crate::proofs::Codes::bad_numbers))]
 pub fn judge(bytes: &[u8]) -> Judged
     ensures { result ≡ judged_of bytes.now }
 {

@@ -14,6 +14,7 @@ ghost use Rattle.office_views.specs.Answers.{answer_bytes};
 use rules::{Answer, Node, Outcome, Request, View};
 
 // The node in a slot; past the room there are unused ones alone.
+#[tactic(auto, using(crate::proofs::Laws::slot_node, crate::proofs::Laws::past_node))]
 pub fn slot_or_blank(bytes: &[u8], room: u32, slot: u32) -> Node
     requires { (formed_code bytes.now ≡ 0) × (room ≡ (decoded bytes.now).room) }
     ensures { result ≡ at (decoded bytes.now) (slot + 1) }
@@ -25,6 +26,7 @@ pub fn slot_or_blank(bytes: &[u8], room: u32, slot: u32) -> Node
     }
 }
 
+#[tactic(auto, using(crate::proofs::Laws::node_at))]
 pub fn node_in(bytes: &[u8], room: u32, n: u32) -> Node
     requires { (formed_code bytes.now ≡ 0) × (room ≡ (decoded bytes.now).room) }
     ensures { result ≡ at (decoded bytes.now) n }
@@ -33,6 +35,7 @@ pub fn node_in(bytes: &[u8], room: u32, n: u32) -> Node
 }
 
 // What node n sees: itself, and the children that it names.
+#[tactic(auto, using(layout::proofs::Slots::room_is, crate::proofs::Laws::view_made))]
 fn view_in(bytes: &[u8], stolen: u32, n: u32) -> View
     requires { (formed_code bytes.now ≡ 0) × (stolen ≡ stolen_in (decoded bytes.now)) }
     ensures { result ≡ view (decoded bytes.now) n }
@@ -55,6 +58,7 @@ fn view_in(bytes: &[u8], stolen: u32, n: u32) -> View
     }
 }
 
+#[tactic(auto, using(nodes::proofs::Laws::natural_held))]
 pub fn outcome_of(bytes: &[u8], stolen: u32, r: Request) -> Outcome
     requires { (formed_code bytes.now ≡ 0) × (stolen ≡ stolen_in (decoded bytes.now)) }
     ensures { result ≡ decided (view (decoded bytes.now) (node_in r)) r }
@@ -64,6 +68,7 @@ pub fn outcome_of(bytes: &[u8], stolen: u32, r: Request) -> Outcome
     requests::decide(v, r)
 }
 
+#[tactic(auto, using(crate::proofs::Laws::answer_written))]
 pub fn put_answer(out: &mut [u8], a: Answer)
     requires { answer_size ≤ length out.old }
     ensures { out.new ≡ written out.old 0 (answer_bytes a) }

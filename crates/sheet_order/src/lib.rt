@@ -59,6 +59,7 @@ impl Pieces {
     }
 
     // The row with a piece more at its end.
+    #[tactic(auto, unfolding(crate::specs::Row::with_piece))]
     pub fn with(self, p: Piece) -> Pieces
         ensures { result ≡ with_piece self p }
     {
@@ -75,6 +76,7 @@ impl Pieces {
 }
 
 // The row with p at its end, where p is of node n.
+#[tactic(auto, using(crate::proofs::Row::with_all_one, crate::proofs::Row::with_all_none))]
 fn with_own(row: Pieces, p: Piece, n: u32) -> Pieces
     ensures { result ≡ with_all row (cond (eqb p.node n) (p ∷ []) []) }
 {
@@ -82,6 +84,7 @@ fn with_own(row: Pieces, p: Piece, n: u32) -> Pieces
 }
 
 // What was granted from node n, in the order in which it was granted, at the row's end.
+#[tactic(auto, using(crate::proofs::Order::granted_none, crate::proofs::Order::granted_more))]
 fn with_granted(row: Pieces, granted: Pieces, n: u32) -> Pieces
     requires { granted.count ≤ most }
     ensures { result ≡ with_all row (from_node (granted_to granted.items granted.count) n) }
@@ -135,9 +138,10 @@ fn settled(row: Pieces) -> Pieces
 
 // The root's listing, where `granted` is what was granted so far, oldest first. The row is empty, and so refused, where the ledger is not
 // well formed or has over 31 nodes, and where over 32 pieces were granted or make the listing.
+#[tactic(auto, using(forms::proofs::Laws::length_under, crate::proofs::Demands::reads_listing, crate::proofs::Demands::small_answer, crate::proofs::Demands::large_answer, crate::proofs::Demands::root_readable), unfolding(crate::specs::Order::small))]
 pub fn in_order(l: Ledger, granted: Pieces) -> Pieces
     ensures value { result ≡ in_order l granted }
-    ensures result_value { 0 < result.count → sheets_of (told result) ≡ listed l.used l (history granted) 1 }
+    ensures listing { 0 < result.count → sheets_of (told result) ≡ listed l.used l (history granted) 1 }
 {
     let small = (l.used <= NODES) & (granted.count <= Pieces::MOST);
     if forms::well_formed(l) & small {

@@ -1,15 +1,18 @@
 // `sheets`: a schedule as text from standard input, its listing to standard output. No contract can say what is read or written: the
 // listing is `listing::list`, and this program only moves its bytes. Where a read fails nothing is written; where a read or a write fails,
-// a line on standard error says so.
+// a line on standard error says so, and the exit status is 1.
 #![tactic(auto)]
 
-ghost use Rattle.std.specs.Prelude.{◌≡◌, ◌*◌, ◌≤◌, ◌<◌, length};
-ghost use Rattle.io.specs.Counts.{IsPrefixLen};
+ghost use Rattle.std.specs.Prelude.{◌≡◌, ◌*◌, ◌≤◌, ◌<◌, length, IfOk};
+ghost use Rattle.std.specs.Io.{ReadsAtMost};
 ghost use Rattle.text_rules.specs.Demands.{schedule_room};
 ghost use Rattle.listing_rules.specs.Demands.{listing_room, short_schedule_room, short_listing_room};
 
-use libc::{STDIN_FILENO, STDOUT_FILENO};
 use line_rules::Written;
+use std::fmt;
+use std::io;
+use std::io::{ErrorKind, Read, Write};
+use std::process::ExitCode;
 
 // Room for the most schedule numbers, and for the longest listing: a line for each of them, the open line and the left line, each as long
 // as the longest. These are the rooms of the listing's theorem that no text finds them too short.
@@ -49,6 +52,13 @@ fn short_listing_area() -> [u8; SHORT_BYTES]
     [0; SHORT_BYTES]
 }
 
+// Room for a text, and for one byte more than a text may have, so that a longer one is seen.
+fn text_area() -> [u8; 65536]
+    ensures { 65536 ≡ length result }
+{
+    [0; 65536]
+}
+
 // How many bytes are moved so far, whether another call is to be made, and whether the last one found that nothing is left to move.
 #[derive(Clone, Copy)]
 struct Moved {
@@ -67,98 +77,137 @@ fn nothing_moved() -> Moved
     }
 }
 
-// What a call's answer says, where `count` bytes are moved with its own. A call that was interrupted is made again; after any other that
-// failed neither of the two holds.
-fn after(answer: isize, count: usize) -> Moved
-    ensures { result.count ≡ count }
+// What a call's answer says, where `count` bytes are moved with its own. A call that was interrupted is made again.
+fn after(answer: io::Result<usize>, count: usize) -> io::Result<Moved>
+    ensures { IfOk result (λ m. m.count ≡ count) }
 {
-    let is_interrupted = os::errno() == libc::EINTR;
-    Moved {
-        count: count,
-        goes_on: (answer > 0) | ((answer < 0) & is_interrupted),
-        has_ended: answer == 0,
+    match answer {
+        Ok(n) => Ok(Moved {
+            count,
+            goes_on: n > 0,
+            has_ended: n == 0,
+        }),
+        Err(e) if e.kind() == ErrorKind::Interrupted => Ok(Moved {
+            count,
+            goes_on: true,
+            has_ended: false,
+        }),
+        Err(e) => Err(e),
     }
 }
 
-fn read_on(area: &mut [u8], done: usize) -> Moved
+fn read_on<R: Read>(input: &mut R, area: &mut [u8], done: usize) -> io::Result<Moved>
     requires { done ≤ length area.old }
-    ensures { result.count ≤ length area.new }
+    ensures { IfOk result (λ m. m.count ≤ length area.new) }
 {
-    let answer = libc::read(STDIN_FILENO, &mut area[done..]);
-    after(answer, done + io::count(answer, &area[done..]))
+    let answer = input.read(&mut area[done..]);
+    after(answer, done + answer.unwrap_or(0))
 }
 
-fn write_on(bytes: &[u8], done: usize) -> Moved
+fn write_on<W: Write>(output: &mut W, bytes: &[u8], done: usize) -> io::Result<Moved>
     requires { done ≤ length bytes.now }
-    ensures { result.count ≤ length bytes.now }
+    ensures { IfOk result (λ m. m.count ≤ length bytes.now) }
 {
-    let answer = libc::write(STDOUT_FILENO, &bytes[done..]);
-    after(answer, done + io::count(answer, &bytes[done..]))
+    let answer = output.write(&bytes[done..]);
+    after(answer, done + answer.unwrap_or(0))
 }
 
-// Reads until the area is full, the input ends or a read fails. Nothing says that interruptions end, so the loop counts its turns down,
-// from a number that no run uses up.
-fn read_all(area: &mut [u8]) -> Moved
-    ensures { IsPrefixLen result.count area.new }
+// Reads until the area is full, the input ends or a read fails, and answers how many bytes then stand at its front. Nothing says that
+// interruptions end, so the loop counts its turns, up to a number that no run uses up.
+fn read_all<R: Read>(input: &mut R, area: &mut [u8]) -> io::Result<usize>
+    ensures { ReadsAtMost result area.new }
 {
     let mut m = nothing_moved();
     let mut turns = u64::MAX;
     while turns > 0 && m.goes_on {
         turns -= 1;
         let done = m.count;
-        m = read_on(area, done);
+        m = read_on(input, area, done)?;
     }
-    m
+    if m.has_ended {
+        Ok(m.count)
+    } else {
+        Err(io::Error::from(ErrorKind::Interrupted))
+    }
 }
 
-// Writes until all bytes are written or a write fails, and tells whether all are.
-fn write_all(bytes: &[u8]) -> bool {
+// Writes until all bytes are written or a write fails.
+fn write_all<W: Write>(output: &mut W, bytes: &[u8]) -> io::Result<()> {
     let mut m = nothing_moved();
     let mut turns = u64::MAX;
     while turns > 0 && m.goes_on && m.count < bytes.len() {
         turns -= 1;
         let done = m.count;
-        m = write_on(bytes, done);
+        m = write_on(output, bytes, done)?;
     }
-    m.count == bytes.len()
+    if m.count == bytes.len() {
+        Ok(())
+    } else {
+        Err(io::Error::from(ErrorKind::WriteZero))
+    }
 }
 
 // Lists the text in the areas that are lent, and writes the listing out.
-fn print_listing(text: &[u8], schedule: &mut [i32], out: &mut [u8]) {
+fn print_listing<W: Write>(
+    output: &mut W,
+    text: &[u8],
+    schedule: &mut [i32],
+    out: &mut [u8],
+) -> io::Result<()> {
     let listed = listing::list(text, schedule, out);
     let length = listed.length;
-    let is_written = write_all(&out[..length]);
-    if !is_written {
-        os::fail(b"sheets: writing");
-    }
+    write_all(output, &out[..length])
 }
 
-fn play_short(text: &[u8])
+fn play_short<W: Write>(output: &mut W, text: &[u8]) -> io::Result<()>
     requires { length text.now < 2 * short_schedule_room }
 {
     let mut schedule = short_schedule_area();
     let mut out = short_listing_area();
-    print_listing(text, &mut schedule, &mut out);
+    print_listing(output, text, &mut schedule, &mut out)
 }
 
-fn play_long(text: &[u8]) {
+fn play_long<W: Write>(output: &mut W, text: &[u8]) -> io::Result<()> {
     let mut schedule = schedule_area();
     let mut out = listing_area();
-    print_listing(text, &mut schedule, &mut out);
+    print_listing(output, text, &mut schedule, &mut out)
 }
 
-fn main() {
-    // One byte more than a text may have, so that a longer one is seen.
-    let mut text = io::large_buffer();
-    let input = read_all(&mut text);
-    if !input.has_ended {
-        os::fail(b"sheets: reading");
-        return;
+// Why no listing, or not all of it, was written.
+#[derive(Debug, Drop)]
+enum Failure {
+    Reading(io::Error),
+    Writing(io::Error),
+}
+
+impl fmt::Display for Failure {
+    fn fmt<W: fmt::Write>(&self, f: &mut fmt::Formatter<W>) -> fmt::Result {
+        match self {
+            Failure::Reading(e) => write!(f, "reading: {e}"),
+            Failure::Writing(e) => write!(f, "writing: {e}"),
+        }
     }
-    let n = input.count;
-    if n < SHORT {
-        play_short(&text[..n]);
+}
+
+// Reads the text, and writes its listing.
+fn run<R: Read, W: Write>(input: &mut R, output: &mut W) -> Result<(), Failure> {
+    let mut text = text_area();
+    let n = read_all(input, &mut text).map_err(Failure::Reading)?;
+    let played = if n < SHORT {
+        play_short(output, &text[..n])
     } else {
-        play_long(&text[..n]);
+        play_long(output, &text[..n])
+    };
+    played.map_err(Failure::Writing)
+}
+
+fn main(rt: HostRuntime) -> ExitCode {
+    match run(&mut rt.stdin(), &mut rt.stdout()) {
+        Ok(()) => ExitCode::SUCCESS,
+        Err(failure) => {
+            // Where this cannot be written either, the status tells it.
+            let _ = eprintln!(rt; "sheets: {failure}");
+            ExitCode::FAILURE
+        }
     }
 }
