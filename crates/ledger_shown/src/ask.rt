@@ -1,6 +1,7 @@
 // Ledgers and requests to show, and the line that shows one request.
 use crate::print;
 use rules::{Ledger, Node, Opening, Request};
+use std::io;
 
 pub(crate) const OWN: i32 = Request::OWN as i32;
 
@@ -68,34 +69,36 @@ pub(crate) fn after(
 
 // Makes a request and prints it with the node that it names, the answer, that node afterwards, the used count and the unclaimed count.
 pub(crate) fn show(
+    rt: &impl Print,
     l: Ledger,
     kind: i32,
     team: i32,
     node: i32,
     position: i32,
     amount: i32,
-) -> Ledger {
+) -> io::Result<Ledger> {
     let r = Request::new(kind, team, node, position, amount, 0, 0, 0);
     let done = ledger::request(l, r);
     let m = done.ledger;
     let a = done.answer;
-    print::request(r);
-    print::text(b" on");
-    print::node_of(l, node);
-    print::text(b": answer");
-    print::answer(a);
-    print::text(b", then");
-    print::node_of(m, node);
-    print::text(b", used");
-    print::number(m.used);
-    print::text(b", count");
-    print::count(m);
-    print::text(b"\n");
-    m
+    print::request(rt, r)?;
+    print::text(rt, " on")?;
+    print::node_of(rt, l, node)?;
+    print::text(rt, ": answer")?;
+    print::answer(rt, a)?;
+    print::text(rt, ", then")?;
+    print::node_of(rt, m, node)?;
+    print::text(rt, ", used")?;
+    print::number(rt, m.used)?;
+    print::text(rt, ", count")?;
+    print::count(rt, m)?;
+    print::text(rt, "\n")?;
+    Ok(m)
 }
 
 // The same, with the tests of document 01's table that hold, at most two of them: the first gives its code.
 pub(crate) fn tested(
+    rt: &impl Print,
     first: u32,
     then: u32,
     l: Ledger,
@@ -104,14 +107,14 @@ pub(crate) fn tested(
     node: i32,
     position: i32,
     amount: i32,
-) -> Ledger {
-    print::text(b"tests");
-    print::number(first);
+) -> io::Result<Ledger> {
+    print::text(rt, "tests")?;
+    print::number(rt, first)?;
     if then != 0 {
-        print::number(then);
+        print::number(rt, then)?;
     }
-    print::text(b": ");
-    show(l, kind, team, node, position, amount)
+    print::text(rt, ": ")?;
+    show(rt, l, kind, team, node, position, amount)
 }
 
 // 0..8 split at 3: team 1 owns the left child 3..5, team 2 the right one 5..8.

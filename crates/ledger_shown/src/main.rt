@@ -12,12 +12,14 @@ mod print;
 mod refuse;
 mod table;
 
-fn main() {
-    opening::all();
-    grant::all();
-    refuse::all();
-    broken::all();
-    letter::all();
-    large::all();
-    table::all();
+use std::io;
+
+fn main(rt: HostRuntime) -> io::Result<()> {
+    opening::all(&rt)?;
+    grant::all(&rt)?;
+    refuse::all(&rt)?;
+    broken::all(&rt)?;
+    letter::all(&rt)?;
+    large::all(&rt)?;
+    table::all(&rt)
 }

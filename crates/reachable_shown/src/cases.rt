@@ -2,6 +2,7 @@
 // requests make.
 use crate::{book, replay};
 use rules::{Finds, Ledger, Node};
+use std::io;
 
 fn new() -> Ledger {
     book::bound(0, 5, 2, 7, 1)
@@ -87,29 +88,34 @@ fn empty(own: Finds, joined: Finds, stage: u32) -> Ledger {
     book::with(book::bound(5, 5, 2, 3, 1), 1, x)
 }
 
-fn real() {
-    replay::shown(b"new", new());
-    replay::shown(b"right part stolen", stolen_right());
-    replay::shown(b"three batches", three_batches());
-    replay::shown(b"reports that wait", waiting());
-    replay::shown(b"last sheet stolen, all pushed", last_sheet());
-    replay::shown(b"seven nodes, all pushed", seven());
+fn real(rt: &impl Print) -> io::Result<()> {
+    replay::shown(rt, "new", new())?;
+    replay::shown(rt, "right part stolen", stolen_right())?;
+    replay::shown(rt, "three batches", three_batches())?;
+    replay::shown(rt, "reports that wait", waiting())?;
+    replay::shown(rt, "last sheet stolen, all pushed", last_sheet())?;
+    replay::shown(rt, "seven nodes, all pushed", seven())
 }
 
 // With the rule for empty nodes only the first of these is well formed; without it all four would be.
-fn unreal() {
+fn unreal(rt: &impl Print) -> io::Result<()> {
     let none = book::finds(0, 0, 0);
     let some = book::finds(4, 1, 2);
-    replay::shown(b"empty", empty(none, none, Node::PUSHED));
-    replay::shown(b"empty and not pushed", empty(none, none, Node::UNREPORTED));
-    replay::shown(b"empty and prepared", empty(some, none, Node::PREPARED));
+    replay::shown(rt, "empty", empty(none, none, Node::PUSHED))?;
     replay::shown(
-        b"empty and pushed with finds",
+        rt,
+        "empty and not pushed",
+        empty(none, none, Node::UNREPORTED),
+    )?;
+    replay::shown(rt, "empty and prepared", empty(some, none, Node::PREPARED))?;
+    replay::shown(
+        rt,
+        "empty and pushed with finds",
         empty(some, some, Node::PUSHED),
-    );
+    )
 }
 
-pub(crate) fn all() {
-    real();
-    unreal();
+pub(crate) fn all(rt: &impl Print) -> io::Result<()> {
+    real(rt)?;
+    unreal(rt)
 }

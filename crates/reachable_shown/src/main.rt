@@ -11,6 +11,8 @@ mod print;
 mod replay;
 mod same;
 
-fn main() {
-    cases::all();
+use std::io;
+
+fn main(rt: HostRuntime) -> io::Result<()> {
+    cases::all(&rt)
 }

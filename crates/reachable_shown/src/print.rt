@@ -1,117 +1,108 @@
 // Prints words, numbers, nodes and requests, a space before every number.
-use libc::STDOUT_FILENO;
 use rules::{Finds, Ledger, Node, Request};
+use std::io;
 
-pub(crate) fn text(s: &[u8]) {
-    io::write_all(STDOUT_FILENO, s);
+pub(crate) fn text(rt: &impl Print, s: &str) -> io::Result<()> {
+    rt.print(s)
 }
 
-pub(crate) fn number(n: u32) {
-    text(b" ");
-    io::print_decimal(STDOUT_FILENO, n as u64);
+pub(crate) fn number(rt: &impl Print, n: u32) -> io::Result<()> {
+    print!(rt; " {n}")
 }
 
-// The sign comes first; what follows it is one more than the position that a mark stands for.
-fn signed(p: i32) {
-    let n = numbers::position_of(p);
-    if numbers::is_negative(p) {
-        text(b" -");
-        io::print_decimal(STDOUT_FILENO, (n as u64) + 1);
-    } else {
-        number(n);
-    }
+fn signed(rt: &impl Print, p: i32) -> io::Result<()> {
+    print!(rt; " {p}")
 }
 
-pub(crate) fn truth(b: bool) {
-    if b {
-        text(b" yes");
-    } else {
-        text(b" no");
-    }
+pub(crate) fn truth(rt: &impl Print, b: bool) -> io::Result<()> {
+    text(rt, if b { " yes" } else { " no" })
 }
 
-fn finds(f: Finds) {
-    number(f.count);
-    number(f.first);
-    number(f.last);
+fn finds(rt: &impl Print, f: Finds) -> io::Result<()> {
+    number(rt, f.count)?;
+    number(rt, f.first)?;
+    number(rt, f.last)
 }
 
 // All numbers of a node: range, progress, owner and left child, both results, and the stage.
-pub(crate) fn node(n: u32, x: Node) {
-    text(b"  node");
-    number(n);
-    text(b":");
-    number(x.start);
-    number(x.until);
-    signed(x.progress);
-    number(x.owner);
-    number(x.left);
-    text(b" own");
-    finds(x.own);
-    text(b" joined");
-    finds(x.joined);
-    text(b" stage");
-    number(x.stage);
+pub(crate) fn node(rt: &impl Print, n: u32, x: Node) -> io::Result<()> {
+    text(rt, "  node")?;
+    number(rt, n)?;
+    text(rt, ":")?;
+    number(rt, x.start)?;
+    number(rt, x.until)?;
+    signed(rt, x.progress)?;
+    number(rt, x.owner)?;
+    number(rt, x.left)?;
+    text(rt, " own")?;
+    finds(rt, x.own)?;
+    text(rt, " joined")?;
+    finds(rt, x.joined)?;
+    text(rt, " stage")?;
+    number(rt, x.stage)
 }
 
 // Start, until, teams, nodes, used.
-pub(crate) fn numbers_of(l: Ledger) {
-    number(l.start);
-    number(l.until);
-    number(l.teams);
-    number(l.room);
-    number(l.used);
+pub(crate) fn numbers_of(rt: &impl Print, l: Ledger) -> io::Result<()> {
+    number(rt, l.start)?;
+    number(rt, l.until)?;
+    number(rt, l.teams)?;
+    number(rt, l.room)?;
+    number(rt, l.used)
 }
 
-fn early_word(kind: u32) {
+fn early_word(rt: &impl Print, kind: u32) -> io::Result<()> {
     if kind == Request::OWN {
-        text(b"  own");
+        text(rt, "  own")?;
     }
     if kind == Request::ADVANCE {
-        text(b"  advance");
+        text(rt, "  advance")?;
     }
     if kind == Request::MARK {
-        text(b"  mark");
+        text(rt, "  mark")?;
     }
+    Ok(())
 }
 
-fn late_word(kind: u32) {
+fn late_word(rt: &impl Print, kind: u32) -> io::Result<()> {
     if kind == Request::EXPAND {
-        text(b"  expand");
+        text(rt, "  expand")?;
     }
     if kind == Request::REPORT {
-        text(b"  report");
+        text(rt, "  report")?;
     }
     if kind == Request::PUSH {
-        text(b"  push");
+        text(rt, "  push")?;
     }
+    Ok(())
 }
 
 // What a request has besides its team and node.
-fn fields(kind: u32, r: Request) {
+fn fields(rt: &impl Print, kind: u32, r: Request) -> io::Result<()> {
     if (kind == Request::ADVANCE) | (kind == Request::MARK) {
-        text(b", position");
-        signed(r.position);
+        text(rt, ", position")?;
+        signed(rt, r.position)?;
     }
     if kind == Request::ADVANCE {
-        text(b", amount");
-        signed(r.amount);
+        text(rt, ", amount")?;
+        signed(rt, r.amount)?;
     }
     if kind == Request::REPORT {
-        text(b", finds");
-        signed(r.count);
-        signed(r.first);
-        signed(r.last);
+        text(rt, ", finds")?;
+        signed(rt, r.count)?;
+        signed(rt, r.first)?;
+        signed(rt, r.last)?;
     }
+    Ok(())
 }
 
-pub(crate) fn request(r: Request) {
+pub(crate) fn request(rt: &impl Print, r: Request) -> io::Result<()> {
     let kind = numbers::natural(r.kind);
-    early_word(kind);
-    late_word(kind);
-    text(b" team");
-    signed(r.team);
-    text(b", node");
-    signed(r.node);
-    fields(kind, r);
+    early_word(rt, kind)?;
+    late_word(rt, kind)?;
+    text(rt, " team")?;
+    signed(rt, r.team)?;
+    text(rt, ", node")?;
+    signed(rt, r.node)?;
+    fields(rt, kind, r)
 }

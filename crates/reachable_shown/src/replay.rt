@@ -2,99 +2,98 @@
 use crate::calls::Calls;
 use crate::{book, calls, history, print, same};
 use rules::{Ledger, Request};
+use std::io;
 
-fn called(l: Ledger, r: Request) -> Ledger {
+fn called(rt: &impl Print, l: Ledger, r: Request) -> io::Result<Ledger> {
     let done = ledger::request(l, r);
     let m = done.ledger;
     let a = done.answer;
-    print::request(r);
-    print::text(b": code");
-    print::number(a.code);
-    print::text(b"\n");
-    m
+    print::request(rt, r)?;
+    print::text(rt, ": code")?;
+    print::number(rt, a.code)?;
+    print::text(rt, "\n")?;
+    Ok(m)
 }
 
 // The request at place i, if the list has one.
-fn turn(l: Ledger, list: Calls, i: usize) -> Ledger {
+fn turn(rt: &impl Print, l: Ledger, list: Calls, i: usize) -> io::Result<Ledger> {
     let count = list.count;
     if i < count {
         if i < calls::LONG {
-            return called(l, list.items[i]);
+            return called(rt, l, list.items[i]);
         }
     }
-    l
+    Ok(l)
 }
 
-fn played(l: Ledger, list: Calls) -> Ledger {
+fn played(rt: &impl Print, l: Ledger, list: Calls) -> io::Result<Ledger> {
     let mut m = l;
-    let mut i = 0;
-    while i < calls::LONG {
-        m = turn(m, list, i);
-        i += 1;
+    for i in 0..calls::LONG {
+        m = turn(rt, m, list, i)?;
     }
-    m
+    Ok(m)
 }
 
 // A node in use, and whether it is as another ledger has it.
-fn line(m: Ledger, n: u32, l: Ledger) {
+fn line(rt: &impl Print, m: Ledger, n: u32, l: Ledger) -> io::Result<()> {
     if n <= m.used {
-        print::node(n, book::node(m, n));
-        print::text(b": same");
-        print::truth(same::nodes_are(book::node(m, n), book::node(l, n)));
-        print::text(b"\n");
+        print::node(rt, n, book::node(m, n))?;
+        print::text(rt, ": same")?;
+        print::truth(rt, same::nodes_are(book::node(m, n), book::node(l, n)))?;
+        print::text(rt, "\n")?;
     }
+    Ok(())
 }
 
 // The nodes of the ledger that came out, each beside the one that was asked for.
-fn beside(m: Ledger, l: Ledger) {
-    let mut n = 1;
-    while n <= book::SMALL {
-        line(m, n, l);
-        n += 1;
+fn beside(rt: &impl Print, m: Ledger, l: Ledger) -> io::Result<()> {
+    for n in 1..=book::SMALL {
+        line(rt, m, n, l)?;
     }
+    Ok(())
 }
 
-fn node_line(l: Ledger, n: u32) {
+fn node_line(rt: &impl Print, l: Ledger, n: u32) -> io::Result<()> {
     if n <= l.used {
-        print::node(n, book::node(l, n));
-        print::text(b"\n");
+        print::node(rt, n, book::node(l, n))?;
+        print::text(rt, "\n")?;
     }
+    Ok(())
 }
 
-fn node_lines(l: Ledger) {
-    let mut n = 1;
-    while n <= book::SMALL {
-        node_line(l, n);
-        n += 1;
+fn node_lines(rt: &impl Print, l: Ledger) -> io::Result<()> {
+    for n in 1..=book::SMALL {
+        node_line(rt, l, n)?;
     }
+    Ok(())
 }
 
-fn asked_for(name: &[u8], l: Ledger) {
-    print::text(name);
-    print::text(b":");
-    print::numbers_of(l);
-    print::text(b", well formed");
-    print::truth(forms::well_formed(l));
-    print::text(b"\n");
-    node_lines(l);
+fn asked_for(rt: &impl Print, name: &str, l: Ledger) -> io::Result<()> {
+    print::text(rt, name)?;
+    print::text(rt, ":")?;
+    print::numbers_of(rt, l)?;
+    print::text(rt, ", well formed")?;
+    print::truth(rt, forms::well_formed(l))?;
+    print::text(rt, "\n")?;
+    node_lines(rt, l)
 }
 
-fn came_out(m: Ledger, l: Ledger) {
-    print::text(b"  comes out:");
-    print::numbers_of(m);
-    print::text(b"\n");
-    beside(m, l);
-    print::text(b"  the same ledger in every number:");
-    print::truth(same::ledgers(l, m));
-    print::text(b"\n");
+fn came_out(rt: &impl Print, m: Ledger, l: Ledger) -> io::Result<()> {
+    print::text(rt, "  comes out:")?;
+    print::numbers_of(rt, m)?;
+    print::text(rt, "\n")?;
+    beside(rt, m, l)?;
+    print::text(rt, "  the same ledger in every number:")?;
+    print::truth(rt, same::ledgers(l, m))?;
+    print::text(rt, "\n")
 }
 
-pub(crate) fn shown(name: &[u8], l: Ledger) {
-    asked_for(name, l);
+pub(crate) fn shown(rt: &impl Print, name: &str, l: Ledger) -> io::Result<()> {
+    asked_for(rt, name, l)?;
     let o = ledger::open(history::opening(l));
     let new = o.ledger;
-    print::text(b"  opening: code");
-    print::number(o.code);
-    print::text(b"\n");
-    came_out(played(new, history::of(l)), l);
+    print::text(rt, "  opening: code")?;
+    print::number(rt, o.code)?;
+    print::text(rt, "\n")?;
+    came_out(rt, played(rt, new, history::of(l))?, l)
 }

@@ -1,6 +1,7 @@
 // Ledgers and requests to show, and the line that shows one request.
 use crate::print;
 use rules::{Finds, Ledger, Node, Opening, Request};
+use std::io;
 
 pub(crate) const OWN: i32 = Request::OWN as i32;
 
@@ -56,49 +57,66 @@ pub(crate) fn rooted(x: Node) -> Ledger {
 }
 
 // Makes a request and prints it with its code, and the node that it names afterwards.
-fn shown(l: Ledger, r: Request, node: i32) -> Ledger {
+fn shown(rt: &impl Print, l: Ledger, r: Request, node: i32) -> io::Result<Ledger> {
     let done = ledger::request(l, r);
     let m = done.ledger;
     let a = done.answer;
-    print::request(r);
-    print::text(b": code");
-    print::number(a.code);
-    print::text(b", then");
-    print::node_of(m, node);
-    print::text(b"\n");
-    m
+    print::request(rt, r)?;
+    print::text(rt, ": code")?;
+    print::number(rt, a.code)?;
+    print::text(rt, ", then")?;
+    print::node_of(rt, m, node)?;
+    print::text(rt, "\n")?;
+    Ok(m)
 }
 
 // A claim, a steal or a split, at a position.
 pub(crate) fn step(
+    rt: &impl Print,
     l: Ledger,
     kind: i32,
     team: i32,
     node: i32,
     position: i32,
     amount: i32,
-) -> Ledger {
+) -> io::Result<Ledger> {
     shown(
+        rt,
         l,
         Request::new(kind, team, node, position, amount, 0, 0, 0),
         node,
     )
 }
 
-pub(crate) fn report(l: Ledger, team: i32, node: i32, count: i32, first: i32, last: i32) -> Ledger {
+pub(crate) fn report(
+    rt: &impl Print,
+    l: Ledger,
+    team: i32,
+    node: i32,
+    count: i32,
+    first: i32,
+    last: i32,
+) -> io::Result<Ledger> {
     shown(
+        rt,
         l,
         Request::new(REPORT, team, node, 0, 0, count, first, last),
         node,
     )
 }
 
-pub(crate) fn push(l: Ledger, team: i32, node: i32) -> Ledger {
-    shown(l, Request::new(PUSH, team, node, 0, 0, 0, 0, 0), node)
+pub(crate) fn push(rt: &impl Print, l: Ledger, team: i32, node: i32) -> io::Result<Ledger> {
+    shown(rt, l, Request::new(PUSH, team, node, 0, 0, 0, 0, 0), node)
 }
 
 // With anything in the fields that the kind has no use of.
-pub(crate) fn littered(l: Ledger, kind: i32, node: i32, count: i32) -> Ledger {
+pub(crate) fn littered(
+    rt: &impl Print,
+    l: Ledger,
+    kind: i32,
+    node: i32,
+    count: i32,
+) -> io::Result<Ledger> {
     let r = Request::new(
         kind,
         1,
@@ -109,15 +127,15 @@ pub(crate) fn littered(l: Ledger, kind: i32, node: i32, count: i32) -> Ledger {
         -2147483648,
         2147483647,
     );
-    shown(l, r, node)
+    shown(rt, l, r, node)
 }
 
 // The tests that hold, the first of which gives its code, with 0 for no second one.
-pub(crate) fn tests(first: u32, then: u32) {
-    print::text(b"tests");
-    print::number(first);
+pub(crate) fn tests(rt: &impl Print, first: u32, then: u32) -> io::Result<()> {
+    print::text(rt, "tests")?;
+    print::number(rt, first)?;
     if then != 0 {
-        print::number(then);
+        print::number(rt, then)?;
     }
-    print::text(b": ");
+    print::text(rt, ": ")
 }

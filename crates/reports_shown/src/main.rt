@@ -9,9 +9,11 @@ mod grant;
 mod print;
 mod tree;
 
-fn main() {
-    codes::all();
-    grant::all();
-    tree::all();
-    formed::all();
+use std::io;
+
+fn main(rt: HostRuntime) -> io::Result<()> {
+    codes::all(&rt)?;
+    grant::all(&rt)?;
+    tree::all(&rt)?;
+    formed::all(&rt)
 }

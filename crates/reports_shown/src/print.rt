@@ -1,71 +1,58 @@
 // Prints numbers, results and nodes, a space before every number.
-use libc::STDOUT_FILENO;
 use rules::{Finds, Ledger, Node, Opening, Request};
+use std::io;
 
-pub(crate) fn text(s: &[u8]) {
-    io::write_all(STDOUT_FILENO, s);
+pub(crate) fn text(rt: &impl Print, s: &str) -> io::Result<()> {
+    rt.print(s)
 }
 
-pub(crate) fn number(n: u32) {
-    text(b" ");
-    io::print_decimal(STDOUT_FILENO, n as u64);
+pub(crate) fn number(rt: &impl Print, n: u32) -> io::Result<()> {
+    print!(rt; " {n}")
 }
 
-// The sign comes first; what follows it is one more than the position that a mark stands for, so that the least number too is printed.
-fn signed(p: i32) {
-    let n = numbers::position_of(p);
-    if numbers::is_negative(p) {
-        text(b" -");
-        io::print_decimal(STDOUT_FILENO, (n as u64) + 1);
-    } else {
-        number(n);
-    }
+fn signed(rt: &impl Print, p: i32) -> io::Result<()> {
+    print!(rt; " {p}")
 }
 
-pub(crate) fn truth(b: bool) {
-    if b {
-        text(b" yes");
-    } else {
-        text(b" no");
-    }
+pub(crate) fn truth(rt: &impl Print, b: bool) -> io::Result<()> {
+    text(rt, if b { " yes" } else { " no" })
 }
 
-fn finds(f: Finds) {
-    number(f.count);
-    number(f.first);
-    number(f.last);
+fn finds(rt: &impl Print, f: Finds) -> io::Result<()> {
+    number(rt, f.count)?;
+    number(rt, f.first)?;
+    number(rt, f.last)
 }
 
 // The state and the report of a node.
-fn node(x: Node) {
-    text(b" state");
-    number(nodes::state_of(x));
-    text(b" stage");
-    number(x.stage);
-    text(b" own");
-    finds(x.own);
-    text(b" joined");
-    finds(x.joined);
+fn node(rt: &impl Print, x: Node) -> io::Result<()> {
+    text(rt, " state")?;
+    number(rt, nodes::state_of(x))?;
+    text(rt, " stage")?;
+    number(rt, x.stage)?;
+    text(rt, " own")?;
+    finds(rt, x.own)?;
+    text(rt, " joined")?;
+    finds(rt, x.joined)
 }
 
 // Node n of a ledger, or "no node" where no slot has that number.
-pub(crate) fn node_of(l: Ledger, n: i32) {
+pub(crate) fn node_of(rt: &impl Print, l: Ledger, n: i32) -> io::Result<()> {
     if 0 < n {
         let slot = numbers::less_by(numbers::natural(n), 1) as usize;
         if slot < Opening::NODES {
-            node(l.nodes[slot]);
-            return;
+            return node(rt, l.nodes[slot]);
         }
     }
-    text(b" no node");
+    text(rt, " no node")
 }
 
-pub(crate) fn request(r: Request) {
-    text(b"request");
-    signed(r.kind);
-    signed(r.team);
-    signed(r.node);
-    signed(r.count);
-    signed(r.first);
-    signed(r.last);
+pub(crate) fn request(rt: &impl Print, r: Request) -> io::Result<()> {
+    text(rt, "request")?;
+    signed(rt, r.kind)?;
+    signed(rt, r.team)?;
+    signed(rt, r.node)?;
+    signed(rt, r.count)?;
+    signed(rt, r.first)?;
+    signed(rt, r.last)
 }

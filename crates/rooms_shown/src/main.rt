@@ -8,7 +8,9 @@ mod merge;
 mod print;
 mod same;
 
-fn main() {
-    lists::all();
-    differ::all();
+use std::io;
+
+fn main(rt: HostRuntime) -> io::Result<()> {
+    lists::all(&rt)?;
+    differ::all(&rt)
 }

@@ -1,53 +1,45 @@
 // Prints words, numbers and answers, a space before every number.
 use crate::merge;
 use crate::merge::Heard;
-use libc::STDOUT_FILENO;
 use rules::Answer;
+use std::io;
 
-pub(crate) fn text(s: &[u8]) {
-    io::write_all(STDOUT_FILENO, s);
+pub(crate) fn text(rt: &impl Print, s: &str) -> io::Result<()> {
+    rt.print(s)
 }
 
-pub(crate) fn number(n: u32) {
-    text(b" ");
-    io::print_decimal(STDOUT_FILENO, n as u64);
+pub(crate) fn number(rt: &impl Print, n: u32) -> io::Result<()> {
+    print!(rt; " {n}")
 }
 
-pub(crate) fn truth(b: bool) {
-    if b {
-        text(b" yes");
-    } else {
-        text(b" no");
-    }
+pub(crate) fn truth(rt: &impl Print, b: bool) -> io::Result<()> {
+    text(rt, if b { " yes" } else { " no" })
 }
 
 // Code, state, from, to, owner, left.
-pub(crate) fn answer(a: Answer) {
-    number(a.code);
-    number(a.state);
-    number(a.from);
-    number(a.to);
-    number(a.owner);
-    number(a.left);
+pub(crate) fn answer(rt: &impl Print, a: Answer) -> io::Result<()> {
+    number(rt, a.code)?;
+    number(rt, a.state)?;
+    number(rt, a.from)?;
+    number(rt, a.to)?;
+    number(rt, a.owner)?;
+    number(rt, a.left)
 }
 
 // Which room calls, six times.
-pub(crate) fn rooms(order: u32) {
+pub(crate) fn rooms(rt: &impl Print, order: u32) -> io::Result<()> {
     let mut rest = order;
-    let mut i = 0;
-    while i < merge::BOTH {
-        number(2 - rest % 2);
+    for _ in 0..merge::BOTH {
+        number(rt, 2 - rest % 2)?;
         rest = rest / 2;
-        i += 1;
     }
+    Ok(())
 }
 
 // The codes that room 1 heard, and then room 2.
-pub(crate) fn codes(h: Heard) {
-    let mut i = 0;
-    while i < merge::BOTH {
-        let a = h.answers[i];
-        number(a.code);
-        i += 1;
+pub(crate) fn codes(rt: &impl Print, h: Heard) -> io::Result<()> {
+    for a in &h.answers {
+        number(rt, a.code)?;
     }
+    Ok(())
 }
