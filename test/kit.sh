@@ -6,9 +6,9 @@
 # shellcheck disable=SC2034
 kit_bin='' kit_tools=''
 if command -v rt >/dev/null 2>&1; then
-    kit=$(dirname "$(dirname "$(rt doc)")")
-    kit_bin=$kit/on/$(uname -m)/bin
-    kit_tools=$kit/on/$(uname -m)/toolchain
+    kit=$(dirname "$(rt doc)")
+    kit_bin=$kit/bin
+    kit_tools=$kit/toolchain
     # shellcheck disable=SC2034
     [ -d "$kit_tools" ] || kit_bin='' kit_tools=''
 fi

@@ -2,3 +2,4 @@
 pub mod Stepping
 pub mod Writing
 pub mod Reading
+pub mod Looping

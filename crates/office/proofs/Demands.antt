@@ -1,6 +1,6 @@
 -- A call on a ledger's bytes is the call on the ledger.
-use mathlib.Core.Path.{◌≡◌, refl, sym, ap, ◌∙◌}
-use mathlib.Core.Bool.{Bool, true, false, ◌&&◌, ◌||◌, and-false}
+use mathlib.Core.Path.{◌≡◌, sym, ap, ◌∙◌}
+use mathlib.Core.Bool.{false, ◌&&◌, and-false}
 use mathlib.Core.List.{List, ◌++◌}
 use Prim.Native.Nat.{ℕ, ◌+◌, ◌≤◌}
 use native.Mathlib.Omega.{arith}
@@ -9,7 +9,6 @@ use lib.IntN.{pos}
 use lib.ListN.{length, drop, length-append}
 use lib.Seq.{drop-append-add}
 use borrow.Author.Tests.{le-ltb}
-use Rattle.rules.specs.declared.Answered.{Answered}
 use Rattle.rules.specs.declared.Ledger.{Ledger}
 use Rattle.rules.specs.declared.Request.{Request}
 use Rattle.rules.specs.Count.{unclaimed}
@@ -70,7 +69,7 @@ module _ (l : Ledger) (tail : List ℕ) (s : Sound l) where
   request_on n r h =
       let enough = le-ltb n answer_size h in
       record {
-        code = simp (enough, long, passing, back);
+        code = simp (enough, long, back);
         area = rw (enough, long, passing) (over_is (requested (decoded bs) r).ledger ∙ ap (λ (k : Ledger). encoded (requested k r).ledger ++ tail) back);
       }
 

@@ -1,12 +1,12 @@
 -- The bytes of a new ledger, the ways out of an opening, and those of the count.
 use mathlib.Core.Path.{◌≡◌, refl, sym, ap, ◌∙◌}
-use mathlib.Core.Bool.{Bool, true, false, cond}
+use mathlib.Core.Bool.{true, false}
 use mathlib.Core.List.{List, [], ◌∷◌, ◌++◌, append_assoc}
 use Prim.Native.Nat.{ℕ, zero, suc, ◌+◌, ◌-◌, ◌*◌, ◌≤◌, ◌<◌}
 use native.Mathlib.Omega.{arith}
 use lib.IntN.{ℤ, pos, negsuc}
 use lib.ListN.{length, take, drop, replicate, length-append, length-replicate, replicate-append-replicate}
-use borrow.Author.Tests.{lt-ltb, le-ltb, eq-eqb, ne_eqb}
+use borrow.Author.Tests.{lt-ltb, le-ltb, ne_eqb}
 use mir.Syntax.{w32}
 use mir.Val.{SFits, to_z, of_z}
 use mir.Facts.{to_z-of_z}
@@ -16,12 +16,12 @@ use Rattle.rules.specs.declared.Opening.{Opening}
 use Rattle.rules.specs.Count.{unclaimed}
 use Rattle.rules.specs.Limits.{max_nodes, opens}
 use Rattle.rules.specs.Nodes.{blank, fresh}
-use Rattle.rules.specs.Opening.{opened, ledger_of}
+use Rattle.rules.specs.Opening.{opened}
 use Rattle.layout.specs.Sizes.{head_size, node_size, area_size, teams_place, room_place, used_place}
 use Rattle.layout.specs.Numbers.{four, fours, bits_of, written}
 use Rattle.layout.specs.Areas.{decoded, encoded, head_bytes, node_fields, node_bytes, nodes_bytes}
 use Rattle.layout.proofs.Fours.{fours-length, wrote_first, wrote_next}
-use Rattle.layout.proofs.Whole.{node_length, encoded-length}
+use Rattle.layout.proofs.Whole.{node_length}
 use Rattle.layout.proofs.Writing.{written_on, written_front}
 use Rattle.office_forms.specs.Codes.{formed_code}
 use Rattle.office.specs.Calls.{count_of, opening_of, open_code, open_area}

@@ -1,10 +1,10 @@
 -- The ways out of a request on bytes: an answer area that is too short, an area that does not pass, and a request that is decided.
 use mathlib.Core.Path.{◌≡◌, refl, sym, ap, ◌∙◌}
-use mathlib.Core.Bool.{Bool, true, false, not, cond, ◌||◌}
+use mathlib.Core.Bool.{Bool, true, false, ◌||◌}
 use mathlib.Core.List.{List}
 use Prim.Native.Nat.{ℕ, ◌≤◌, ◌<◌}
 use native.Mathlib.Omega.{arith}
-use lib.Dec.{eqb, ltb}
+use lib.Dec.{ltb}
 use lib.IntN.{ℤ, pos}
 use lib.ListN.{length}
 use borrow.Author.Tests.{lt-ltb, le-ltb, eq-eqb, ne_eqb}
@@ -17,8 +17,7 @@ use Rattle.rules.specs.declared.Answered.{Answered}
 use Rattle.rules.specs.declared.Outcome.{Outcome}
 use Rattle.rules.specs.declared.Request.{Request}
 use Rattle.rules.specs.Asks.{request}
-use Rattle.rules.specs.Requests.{refused, decided, view, changed, node_in, answered, requested}
-use Rattle.rules.specs.WellFormed.{well_formed}
+use Rattle.rules.specs.Requests.{decided, view, changed, node_in, answered, requested}
 use Rattle.layout.specs.Sizes.{answer_size}
 use Rattle.layout.specs.Numbers.{written}
 use Rattle.layout.specs.Areas.{decoded, over, too_short}

@@ -1,5 +1,5 @@
 -- "Prove [..] that a request on bytes is the request on records": for a ledger's bytes with any bytes behind them.
-use Rattle.std.specs.Prelude.{◌≡◌, List, ◌++◌, ℕ, ◌≤◌, pos, length}
+use Rattle.std.specs.Prelude.{◌≡◌, List, ◌++◌, ℕ, ◌≤◌, pos}
 use Rattle.rules.specs.declared.Ledger.{Ledger}
 use Rattle.rules.specs.declared.Request.{Request}
 use Rattle.rules.specs.Count.{unclaimed}

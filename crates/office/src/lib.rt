@@ -88,6 +88,7 @@ pub extern "C" fn yol_request(
 
 // The unclaimed count, or the code of its refusal with a minus.
 #[unsafe(no_mangle)]
+#[tactic(auto, using(office_forms::proofs::Held::code_of, office_views::proofs::Laws::rest_small, crate::proofs::Opening::count_given))]
 pub extern "C" fn yol_unclaimed(ledger: &[u8]) -> i32
     ensures { result ≡ count_of ledger.now }
 {

@@ -18,6 +18,7 @@ fn zero(bytes: &mut [u8], from: usize, to: usize)
     }
 }
 
+#[tactic(auto, using(nodes::proofs::Makers::fresh_within, crate::proofs::Opening::new_area))]
 pub(crate) fn put_new(bytes: &mut [u8], start: u32, until: u32, teams: u32, room: u32)
     requires { (start ≤ max_until) × (1 ≤ room) × (room ≤ max_nodes) × (area_size room ≤ length bytes.old) }
     ensures { bytes.new ≡ encoded (opened start until teams room) ++ drop (area_size room) bytes.old }

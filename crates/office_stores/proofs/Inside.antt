@@ -1,7 +1,7 @@
 -- A granted request stores into slots of the ledger's own room alone, and within the limits.
 use mathlib.Core.Path.{◌≡◌, refl}
 use mathlib.Core.List.{List}
-use Prim.Native.Nat.{ℕ, ◌+◌, ◌≤◌}
+use Prim.Native.Nat.{ℕ, ◌≤◌}
 use native.Mathlib.Omega.{arith}
 use Rattle.rules.specs.declared.Change.{Change}
 use Rattle.rules.specs.declared.Ledger.{Ledger}
@@ -14,7 +14,7 @@ use Rattle.rules.proofs.Changed.{Changes, keeps, owns, advances, marks, splits, 
 use Rattle.rules.proofs.FindsFit.{joined_fits}
 use Rattle.rules.proofs.Range.{within_range}
 use Rattle.rules.proofs.Record.{WF, used_high, sound}
-use Rattle.rules.proofs.Spare.{spare, pair_room}
+use Rattle.rules.proofs.Spare.{pair_room}
 use Rattle.layout.specs.Areas.{decoded}
 use Rattle.office_forms.specs.Codes.{formed_code}
 use Rattle.office_forms.proofs.Held.{ruled}

@@ -9,6 +9,7 @@ ghost use Rattle.office_stores.specs.Changes.{Inside};
 
 use rules::{Change, Finds};
 
+#[tactic(auto, using(crate::proofs::Laws::owned_area))]
 fn own(bytes: &mut [u8], n: u32, team: u32)
     requires { (formed_code bytes.old ≡ 0) × Inside (decoded bytes.old) n (Change.Own team) }
     ensures { bytes.new ≡ over bytes.old (changed (decoded bytes.old) n (Change.Own team)) }
@@ -16,6 +17,7 @@ fn own(bytes: &mut [u8], n: u32, team: u32)
     layout::put_owner(bytes, (n - 1) as usize, team);
 }
 
+#[tactic(auto, using(crate::proofs::Laws::advanced_area))]
 fn advance(bytes: &mut [u8], n: u32, p: u32)
     requires { (formed_code bytes.old ≡ 0) × Inside (decoded bytes.old) n (Change.Advance p) }
     ensures { bytes.new ≡ over bytes.old (changed (decoded bytes.old) n (Change.Advance p)) }
@@ -24,6 +26,7 @@ fn advance(bytes: &mut [u8], n: u32, p: u32)
     layout::put_progress(bytes, (n - 1) as usize, progress);
 }
 
+#[tactic(auto, using(crate::proofs::Laws::marked_area))]
 fn steal(bytes: &mut [u8], n: u32, p: u32)
     requires { (formed_code bytes.old ≡ 0) × Inside (decoded bytes.old) n (Change.Mark p) }
     ensures { bytes.new ≡ over bytes.old (changed (decoded bytes.old) n (Change.Mark p)) }
@@ -47,6 +50,7 @@ fn split(bytes: &mut [u8], n: u32, pair: u32)
     layout::put_number(bytes, layout::USED, pair + 1);
 }
 
+#[tactic(auto, using(crate::proofs::Laws::reported_area))]
 fn report(bytes: &mut [u8], n: u32, f: Finds)
     requires { (formed_code bytes.old ≡ 0) × Inside (decoded bytes.old) n (Change.Report f) }
     ensures { bytes.new ≡ over bytes.old (changed (decoded bytes.old) n (Change.Report f)) }
@@ -55,6 +59,7 @@ fn report(bytes: &mut [u8], n: u32, f: Finds)
 }
 
 // The joined result is made of the node's own and its children's, which are read again: a push is rare.
+#[tactic(auto, using(layout::proofs::Slots::room_is, crate::proofs::Laws::pushed_area))]
 fn push(bytes: &mut [u8], n: u32)
     requires { (formed_code bytes.old ≡ 0) × Inside (decoded bytes.old) n Change.Push }
     ensures { bytes.new ≡ over bytes.old (changed (decoded bytes.old) n Change.Push) }
@@ -70,6 +75,7 @@ fn push(bytes: &mut [u8], n: u32)
 }
 
 // A change of node n. What it stores stands in the ledger's own room, so nothing is tested here.
+#[tactic(auto, using(crate::proofs::Laws::kept_area))]
 pub fn apply(bytes: &mut [u8], n: u32, c: Change)
     requires { (formed_code bytes.old ≡ 0) × Inside (decoded bytes.old) n c }
     ensures { bytes.new ≡ over bytes.old (changed (decoded bytes.old) n c) }

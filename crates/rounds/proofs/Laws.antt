@@ -3,9 +3,9 @@ use mathlib.Core.Path.{◌≡◌, refl, sym, ◌∙◌}
 use mathlib.Core.Logic.{◌≢◌}
 use mathlib.Core.Bool.{Bool, true, false, cond, not}
 use mathlib.Core.List.{List}
-use Prim.Native.Nat.{ℕ, ◌-◌, ◌≤◌, ◌<◌}
+use Prim.Native.Nat.{ℕ, ◌≤◌, ◌<◌}
 use native.Mathlib.Omega.{arith}
-use lib.Dec.{T, leb, ltb, leb→le, nleb→lt}
+use lib.Dec.{ltb}
 use lib.IntN.{ℤ}
 use lib.ListN.{length, get_or, set}
 use lib.Seq.{set-get_or}
@@ -19,7 +19,7 @@ use Rattle.steps.specs.declared.Round.{Round}
 use Rattle.steps.specs.Records.{no_team}
 use Rattle.steps.specs.Step.{slot_of, record_of, unfit, lent_code, solo_code, step_unless, lent_step, solo_step, records_after}
 use Rattle.rounds.specs.declared.Apart.{Apart}
-use Rattle.rounds.specs.Lent.{slot_in, outside_code, refused_round, apart_step, lent_round, lent_records, table_step}
+use Rattle.rounds.specs.Lent.{slot_in, outside_code, refused_round, apart_step, lent_round, lent_records}
 
 -- the codes of a step by how its tests come out: 1, 3, 18 and 19
 abbrev lent : Bool → Bool → Bool → Bool → ℕ
@@ -70,11 +70,11 @@ module _ (l : Ledger) (number cap : ℤ) (ys : List Team) where
   unfolding lent_code outside_code
   nowhere h = early (well_formed l) team few (unfit cap r) (λ a b. let z = inside a b in omega arith)
 
-  pub no_slot : (i : ℕ) (x : Round) → i ≡ slot_in l number n → T (leb n i) → x ≡ refused_round l number n
+  pub no_slot : (i : ℕ) (x : Round) → i ≡ slot_in l number n → n ≤ i → x ≡ refused_round l number n
       → (x ≡ lent_round l number cap ys) × (ys ≡ lent_records l number cap ys)
   unfolding lent_round lent_records records_after lent_step step_unless
   no_slot i x at_slot big is =
-      let e = nowhere (rw (← at_slot) (leb→le n i big)) in (
+      let e = nowhere (rw (← at_slot) big) in (
         rw (e.0, ne_eqb _ 0 e.1) is,
         rw (e.0, ne_eqb _ 0 e.1) (sym (set-get_or ys (slot_of number) no_team)),
       )
@@ -89,16 +89,11 @@ module _ (l : Ledger) (number cap : ℤ) (ys : List Team) where
   unfolding slot_in
   slot_is a b = rw (a, b)
 
-  pub in_slot : (i : ℕ) (x : Apart) → i ≡ slot_in l number n → T (not (leb n i)) → x ≡ apart_step l number cap (get_or ys i no_team)
+  pub in_slot : (i : ℕ) (x : Apart) → i ≡ slot_in l number n → i < n → x ≡ apart_step l number cap (get_or ys i no_team)
       → (x.round ≡ lent_round l number cap ys) × (set ys i x.team ≡ lent_records l number cap ys)
   unfolding lent_round lent_records records_after lent_step solo_step apart_step
   in_slot i x at_slot small is =
-      let h = there (rw (← at_slot) (nleb→lt n i small)) in
+      let h = there (rw (← at_slot) small) in
       let j : i ≡ slot_of number = at_slot ∙ slot_is h.0 h.1 in
       let c = same_code h.0 h.1 in
       let y : x ≡ apart_step l number cap r = rw j at is in (rw (c, y), rw (c, j, y))
-
-  pub table_made : {x : Round} {zs : List Team} → x ≡ lent_round l number cap ys → zs ≡ lent_records l number cap ys
-      → record { round = x; records = zs } ≡ table_step l number cap ys
-  unfolding table_step
-  table_made e f = rw (e, f)

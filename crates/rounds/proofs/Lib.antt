@@ -1,3 +1,2 @@
--- What the step over lent records needs, and its walk.
+-- What the step over lent records needs of the definitions.
 pub mod Laws
-pub mod Guard

@@ -22,6 +22,7 @@ pub struct Table {
 }
 
 // Where a team's record stands among n lent ones: nowhere, which is n, if the team is none or the records are too few.
+#[tactic(auto, unfolding(crate::specs::Lent::slot_in))]
 fn slot(l: Ledger, number: i32, n: usize) -> usize
     ensures { result ≡ slot_in l number n }
 {
@@ -34,6 +35,7 @@ fn slot(l: Ledger, number: i32, n: usize) -> usize
     n
 }
 
+#[tactic(auto, unfolding(crate::specs::Lent::outside_code))]
 fn outside_code(l: Ledger, number: i32, n: usize) -> u32
     ensures { result ≡ outside_code l number n }
 {
@@ -55,6 +57,7 @@ fn refused_round(l: Ledger, number: i32, n: usize) -> Round
     }
 }
 
+#[tactic(auto, unfolding(crate::specs::Lent::apart_step))]
 fn step_one(l: Ledger, number: i32, cap: i32, t: Team) -> Apart
     ensures { result ≡ apart_step l number cap t }
 {
@@ -90,6 +93,7 @@ pub fn step_lent(l: Ledger, number: i32, cap: i32, records: &mut [Team]) -> Roun
 }
 
 // The same over a table by value, which it lends: whoever calls this needs to know nothing of lending.
+#[tactic(auto, unfolding(crate::specs::Lent::table_step))]
 pub fn step_in(l: Ledger, number: i32, cap: i32, records: [Team; Team::RECORDS]) -> Table
     ensures { result ≡ table_step l number cap records }
 {

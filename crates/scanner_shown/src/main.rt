@@ -5,7 +5,7 @@
 ghost use Rattle.std.specs.Prelude.{◌≡◌};
 ghost use Rattle.scanner_shown.specs.First.{found_in};
 
-use libc::STDOUT_FILENO;
+use std::io;
 use text_rules::{Kind, Token};
 
 // The first token of a text, and the place of the scanner past it.
@@ -26,48 +26,44 @@ fn found_in(text: &[u8]) -> Found
     }
 }
 
-fn word(w: &[u8]) {
-    io::write_all(STDOUT_FILENO, w);
+fn number(rt: &impl Print, n: u64) -> io::Result<()> {
+    print!(rt; " {n}")
 }
 
-fn number(n: u64) {
-    word(b" ");
-    io::print_decimal(STDOUT_FILENO, n);
-}
-
-fn token(t: Token) {
+fn token(rt: &impl Print, t: Token) -> io::Result<()> {
     let kind = t.kind;
     match kind {
-        Kind::End => word(b", end"),
-        Kind::LineEnd => word(b", line end"),
-        Kind::Number => word(b", number"),
-        Kind::Wrong => word(b", wrong byte"),
+        Kind::End => print!(rt; ", end")?,
+        Kind::LineEnd => print!(rt; ", line end")?,
+        Kind::Number => print!(rt; ", number")?,
+        Kind::Wrong => print!(rt; ", wrong byte")?,
     }
-    number(t.value as u64);
+    number(rt, t.value as u64)
 }
 
-fn show(name: &[u8], text: &[u8]) {
-    word(name);
+fn show(rt: &impl Print, name: &str, text: &[u8]) -> io::Result<()> {
+    print!(rt; "{name}")?;
     let mut from = 0;
     while from < text.len() {
         let found = found_in(&text[from..]);
         let t = found.token;
-        token(t);
+        token(rt, t)?;
         from += found.place;
-        word(b" to");
-        number(from as u64);
+        print!(rt; " to")?;
+        number(rt, from as u64)?;
     }
-    word(b"\n");
+    println!(rt; "")
 }
 
-fn main() {
-    show(b"nothing", b"");
-    show(b"a number", b"12");
-    show(b"numbers, blanks and line ends", b" 0\t5 2\r\n\n4 7");
-    show(b"comments", b"# 1 2\n3#4\n#");
-    show(b"wrong bytes", b"1x-2\x0b");
+fn main(rt: HostRuntime) -> io::Result<()> {
+    show(&rt, "nothing", b"")?;
+    show(&rt, "a number", b"12")?;
+    show(&rt, "numbers, blanks and line ends", b" 0\t5 2\r\n\n4 7")?;
+    show(&rt, "comments", b"# 1 2\n3#4\n#")?;
+    show(&rt, "wrong bytes", b"1x-2\x0b")?;
     show(
-        b"ten digits and eleven",
+        &rt,
+        "ten digits and eleven",
         b"2147483647 0000000002 2147483648 00000000002",
-    );
+    )
 }

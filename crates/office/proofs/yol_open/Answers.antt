@@ -1,0 +1,109 @@
+-- The ways out of an opening.
+use Rattle.std.proofs.Common.{arith, sym, ap, ◌∙◌}
+use lib.IntN.{pos}
+use mir.Facts.{to_z-of_z}
+use Rattle.numbers.specs.Fields.{nat_of}
+use Rattle.rules.specs.Limits.{opens}
+use Rattle.rules.proofs.Opens.{opens_facts}
+use Rattle.office.specs.Calls.{opening_of}
+use Rattle.office.proofs.Opening.{bad_code, few_code, good_code, kept_area, good_area, opening_held}
+use Rattle.office.proofs.yol_open.Goals as goal
+
+-- ---- an area that is too short
+
+pub returns-then-ledger-room-clause-code : goal.returns-then-ledger-room-clause-code
+returns-then-ledger-room-clause-code c =
+    let a = c.args in
+    let f = c.ranges in
+    let bs = a.ledger.now in
+    let o = opening_of a.start a.until a.teams a.cap a.nodes in
+    let same = opening_held a.start a.until a.teams a.cap a.nodes f.start f.until f.teams f.cap f.nodes in
+    let test = c.is_good.ensures ∙ ap opens same in
+    let e = sym test ∙ c.if-is_good.true in
+    let room = c.natural-room.ensures ∙ ap nat_of (to_z-of_z f.nodes) in
+    let code = few_code bs o e (rw room at c.if-ledger-room.true) in
+    ap pos (sym code)
+
+pub returns-then-ledger-room-clause-area : goal.returns-then-ledger-room-clause-area
+returns-then-ledger-room-clause-area c =
+    let a = c.args in
+    let f = c.ranges in
+    let bs = a.ledger.now in
+    let o = opening_of a.start a.until a.teams a.cap a.nodes in
+    let same = opening_held a.start a.until a.teams a.cap a.nodes f.start f.until f.teams f.cap f.nodes in
+    let test = c.is_good.ensures ∙ ap opens same in
+    let e = sym test ∙ c.if-is_good.true in
+    let room = c.natural-room.ensures ∙ ap nat_of (to_z-of_z f.nodes) in
+    let code = few_code bs o e (rw room at c.if-ledger-room.true) in
+    sym (kept_area bs o 37 code (λ z. omega arith))
+
+-- ---- an opening that is granted
+
+pub put_new-requires : goal.put_new-requires
+put_new-requires c =
+    let a = c.args in
+    let f = c.ranges in
+    let bs = a.ledger.now in
+    let o = opening_of a.start a.until a.teams a.cap a.nodes in
+    let same = opening_held a.start a.until a.teams a.cap a.nodes f.start f.until f.teams f.cap f.nodes in
+    let test = c.is_good.ensures ∙ ap opens same in
+    let g = opens_facts o (sym test ∙ c.if-is_good.true) in
+    let room = c.natural-room.ensures ∙ ap nat_of (to_z-of_z f.nodes) in
+    let first = c.natural-first.ensures ∙ ap nat_of (to_z-of_z f.start) in
+    (omega (arith, g.start.high, g.until.high), omega (arith, g.nodes.low), omega (arith, g.nodes.high), c.if-ledger-room.false)
+
+pub returns-then-is_good-clause-code : goal.returns-then-is_good-clause-code
+returns-then-is_good-clause-code c =
+    let a = c.args in
+    let f = c.ranges in
+    let bs = a.ledger.now in
+    let o = opening_of a.start a.until a.teams a.cap a.nodes in
+    let same = opening_held a.start a.until a.teams a.cap a.nodes f.start f.until f.teams f.cap f.nodes in
+    let test = c.is_good.ensures ∙ ap opens same in
+    let e = sym test ∙ c.if-is_good.true in
+    let room = c.natural-room.ensures ∙ ap nat_of (to_z-of_z f.nodes) in
+    let code = good_code bs o e (rw room at c.if-ledger-room.false) in
+    ap pos (sym code)
+
+pub returns-then-is_good-clause-area : goal.returns-then-is_good-clause-area
+returns-then-is_good-clause-area c =
+    let a = c.args in
+    let f = c.ranges in
+    let bs = a.ledger.now in
+    let o = opening_of a.start a.until a.teams a.cap a.nodes in
+    let same = opening_held a.start a.until a.teams a.cap a.nodes f.start f.until f.teams f.cap f.nodes in
+    let test = c.is_good.ensures ∙ ap opens same in
+    let e = sym test ∙ c.if-is_good.true in
+    let room = c.natural-room.ensures ∙ ap nat_of (to_z-of_z f.nodes) in
+    let code = good_code bs o e (rw room at c.if-ledger-room.false) in
+    let area =
+    good_area bs o code
+    (c.natural-first.ensures ∙ ap nat_of (to_z-of_z f.start))
+    (c.natural-last.ensures ∙ ap nat_of (to_z-of_z f.until))
+    (c.natural-count.ensures ∙ ap nat_of (to_z-of_z f.teams))
+    room in
+    c.put_new.ensures ∙ area
+
+-- ---- numbers outside the limits
+
+pub returns-clause-code : goal.returns-clause-code
+returns-clause-code c =
+    let a = c.args in
+    let f = c.ranges in
+    let bs = a.ledger.now in
+    let o = opening_of a.start a.until a.teams a.cap a.nodes in
+    let same = opening_held a.start a.until a.teams a.cap a.nodes f.start f.until f.teams f.cap f.nodes in
+    let test = c.is_good.ensures ∙ ap opens same in
+    let code = bad_code bs o (sym test ∙ c.if-is_good.false) in
+    ap pos (sym code)
+
+pub returns-clause-area : goal.returns-clause-area
+returns-clause-area c =
+    let a = c.args in
+    let f = c.ranges in
+    let bs = a.ledger.now in
+    let o = opening_of a.start a.until a.teams a.cap a.nodes in
+    let same = opening_held a.start a.until a.teams a.cap a.nodes f.start f.until f.teams f.cap f.nodes in
+    let test = c.is_good.ensures ∙ ap opens same in
+    let code = bad_code bs o (sym test ∙ c.if-is_good.false) in
+    sym (kept_area bs o 20 code (λ z. omega arith))
