@@ -189,6 +189,8 @@ fn play_short<W: Write>(output: &mut W, text: &[u8]) -> io::Result<()>
     print_listing(output, text, &mut schedule, &mut out)
 }
 
+// In a frame of its own, so that a short text does not pay for the large areas.
+#[inline(never)]
 fn play_long<W: Write>(output: &mut W, text: &[u8]) -> io::Result<()>
     ensures { OnOk result (Appends (W.contents output.old) (W.contents output.new) (listing_of text.now)) }
 {
