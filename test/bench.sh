@@ -3,15 +3,11 @@
 #
 #   test/bench.sh SHEETS [REPEATS]
 #
-# SHEETS is the program itself, for x86-64; the twin is built for x86-64 too, and both are run by the words of test/runner.sh.  On a
-# machine that is not x86-64 that is an emulator: then only the ratios say something, and those roughly.  Each time is the least
-# processor time of REPEATS runs (40), the programs and texts taking turns.  The first row is the empty run, a header without a schedule:
-# what starting the process, opening the ledger and the two lines cost, whatever the steps.  It is taken off the other rows; off the text
-# that is refused the second row is taken.
+# SHEETS is the program itself, crates/sheets/out/sheets, which `bin/sheets` proves and builds where it is not there; the twin is built by
+# the kit's own compiler.  Each time is the least processor time of REPEATS runs (40), the programs and texts taking turns.  The first row
+# is the empty run, a header without a schedule: what starting the process, opening the ledger and the two lines cost, whatever the steps.
+# It is taken off the other rows; off the text that is refused the second row is taken.
 set -eu
-# The emulator plays a processor without the fast string instructions: it plays those byte by byte, so that clearing an area of a
-# megabyte, which costs a processor next to nothing, would cost 5 ms.
-export QEMU_CPU=Nehalem
 
 here=$(cd "$(dirname "$0")" && pwd)
 if [ $# -lt 1 ] || [ ! -f "$1" ]; then

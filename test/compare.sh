@@ -3,7 +3,7 @@
 #
 #   test/compare.sh SHEETS TWIN SEED COUNT [FILE...]
 #
-# SHEETS and TWIN are commands, each one argument of one or more words, as "$(test/runner.sh) target/bin/sheets".
+# SHEETS and TWIN are commands, each one argument of one or more words, as "$(test/runner.sh) crates/sheets/out/sheets".
 # COUNT texts are made from SEED; the FILEs are compared too, and where FILE is NAME.txt and there is a
 # NAME.out, both programs must write just that.  Exit status 1 at the first difference.
 set -u
@@ -38,7 +38,7 @@ differ() { # FILE WHY
     exit 1
 }
 
-# The two run at the same time: what counts under an emulator is the start of a process.
+# The two run at the same time.
 compare() { # FILE
     "${sheets[@]}" <"$1" >"$room/one" 2>"$room/said" &
     "${twin[@]}" <"$1" >"$room/two"

@@ -3,8 +3,9 @@
     python3 test/use.py
 
 Inputs that cannot be read, outputs that cannot be written, slow pipes, long texts, a link, a proof that failed: by `bin/sheets`, which
-has an exit status (0 a listing, 1 refused, 2 could not read, write or build), and by the program behind it, which has none. The program
-must be built: the gate has proved it just before. Exit status 1 if something is not as it must be.
+has an exit status (0 a listing, 1 refused, 2 could not read, write or build), and by the program behind it, whose status is 1 where it
+could not read or write, and else 0. Where the program is not built yet, `bin/sheets` proves and builds it first. Exit status 1 if
+something is not as it must be.
 """
 
 import os
@@ -20,7 +21,7 @@ import longest
 
 HERE = os.path.dirname(os.path.dirname(os.path.realpath(__file__)))
 WRAPPER = [os.path.join(HERE, 'bin', 'sheets')]
-PROGRAM = os.path.join(HERE, 'target', 'bin', 'sheets')
+PROGRAM = os.path.join(HERE, 'crates', 'sheets', 'out', 'sheets')
 RUNNER = subprocess.run([os.path.join(HERE, 'test', 'runner.sh')], check=True, capture_output=True, text=True).stdout.split()
 BARE = RUNNER + [PROGRAM]
 PATIENCE = 120
@@ -104,9 +105,8 @@ def some_then_silence(text):
 
 # ---- what both do
 
-def reading(name, words, failed):
-    """Texts that can be read, and inputs that cannot: `failed` is the status then."""
-    refused = 1 if failed else 0
+def reading(name, words, refused, failed):
+    """Texts that can be read, and inputs that cannot: `refused` is the status of a text that is refused, `failed` that where a read failed."""
     hold(name + ', a slow pipe', words, 0, LISTING, None, feed=byte_by_byte(TEXT))
     hold(name + ', an endless input', words, refused, TOO_LONG, None, feed=without_end)
     with tempfile.TemporaryFile() as large:
@@ -144,7 +144,7 @@ def interruptions(room):
                     os.path.join(HERE, 'test', 'interrupted.c')], check=True)
     subprocess.run([tools + '/bin/ld.lld', '-shared', '-o', library, made], check=True)
     with open(os.path.join(HERE, 'examples', 'class-of-eight.txt'), 'rb') as text:
-        hold('interrupted calls', RUNNER + ['--preload', library, PROGRAM], 0, LISTING, None, stdin=text)
+        hold('interrupted calls', BARE, 0, LISTING, None, stdin=text, env={**os.environ, 'LD_PRELOAD': library})
 
 
 def small_stack():
@@ -152,14 +152,11 @@ def small_stack():
     most = 2000000
     text = longest.one_team().encode()
     listing = subprocess.run(BARE, input=text, capture_output=True, check=True).stdout
-    if RUNNER and 'qemu' in RUNNER[0]:
-        words, limit = RUNNER[:1] + ['-s', str(most)] + RUNNER[1:] + [PROGRAM], None
-    else:
-        words, limit = BARE, lambda: resource.setrlimit(resource.RLIMIT_STACK, (most, most))
+    limit = lambda: resource.setrlimit(resource.RLIMIT_STACK, (most, most))
     with tempfile.TemporaryFile() as file:
         file.write(text)
         file.seek(0)
-        hold('%d bytes of stack' % most, words, 0, listing, None, stdin=file, preexec_fn=limit)
+        hold('%d bytes of stack' % most, BARE, 0, listing, None, stdin=file, preexec_fn=limit)
 
 
 # ---- the wrapper alone
@@ -175,10 +172,10 @@ def links(room):
 STAND_IN = '''#!/bin/sh
 # In the place of rt: proves nothing, and takes the program that was proved for what it builds.
 case $1 in
-check)
-    echo check >>'%(room)s/calls'
-    [ -f '%(room)s/is-right' ] || { echo 'rt: sheets NOT PROVED'; exit 1; }
-    mkdir -p target/bin && cp '%(program)s' target/bin/sheets && echo 'rt: sheets proved (0 s)'
+run)
+    echo run >>'%(room)s/calls'
+    [ -f '%(room)s/is-right' ] || { echo 'logic=not-proved' >&2; exit 1; }
+    mkdir -p out && cp '%(program)s' out/sheets && echo 'logic=proved' >&2
     ;;
 *) exec '%(rt)s' "$@" ;;
 esac
@@ -191,9 +188,9 @@ class Tree:
     def __init__(self, room):
         self.room, self.tree = room, os.path.join(room, 'tree')
         for part in ('bin', 'test', 'crates/sheets'):
-            shutil.copytree(os.path.join(HERE, part), os.path.join(self.tree, part))
+            shutil.copytree(os.path.join(HERE, part), os.path.join(self.tree, part), ignore=shutil.ignore_patterns('out'))
         shutil.copy(os.path.join(HERE, 'crates.txt'), self.tree)
-        self.program = os.path.join(self.tree, 'target', 'bin', 'sheets')
+        self.program = os.path.join(self.tree, 'crates', 'sheets', 'out', 'sheets')
         self.source = os.path.join(self.tree, 'crates', 'sheets', 'src', 'main.rt')
         tools = os.path.join(room, 'tools')
         os.mkdir(tools)
@@ -237,7 +234,7 @@ class Tree:
         if not works and b'sheets: it is not proved, so nothing is run' not in ended.stderr:
             faults.append('%s: it did not say that it is not proved, but %r' % (title, ended.stderr))
         if (self.calls() > before) != proves:
-            faults.append('%s: rt check was called %d times' % (title, self.calls() - before))
+            faults.append('%s: rt run was called %d times' % (title, self.calls() - before))
 
 
 def proofs(room):
@@ -269,10 +266,10 @@ def main():
     try:
         # Where it was not called before, it says what it proves and builds.
         subprocess.run(WRAPPER, input=TEXT, capture_output=True)
-        reading('bin/sheets', WRAPPER, 2)
+        reading('bin/sheets', WRAPPER, 1, 2)
         writing('bin/sheets', WRAPPER, 2)
-        reading('the program', BARE, 0)
-        writing('the program', BARE, 0)
+        reading('the program', BARE, 0, 1)
+        writing('the program', BARE, 1)
         hold('an argument', WRAPPER + ['examples/two-teams.txt'], 2, b'', 'sheets: it takes no argument')
         interruptions(room)
         small_stack()

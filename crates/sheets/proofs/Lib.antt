@@ -1,2 +1,3 @@
--- The length of a large area, which is not computed.
+-- The length of a large area, which is not computed, and the bytes that are moved.
 pub mod Areas
+pub mod Bytes

@@ -1,18 +1,21 @@
-// `sheets`: a schedule as text from standard input, its listing to standard output. No contract can say what is read or written: the
-// listing is `listing::list`, and this program only moves its bytes. Where a read fails nothing is written; where a read or a write fails,
-// a line on standard error says so, and the exit status is 1.
+// `sheets`: a schedule as text from standard input, its listing to standard output. No contract can say what the system gives or takes; but
+// over any reader and writer of known bytes what is written is the listing of what is read, as `run` says. Where a read fails nothing is
+// written; where a read or a write fails, a line on standard error says so, and the exit status is 1.
 #![tactic(auto)]
 
-ghost use Rattle.std.specs.Prelude.{◌≡◌, ◌*◌, ◌≤◌, ◌<◌, length, IfOk};
+ghost use Rattle.std.specs.Prelude.{◌≡◌, ◌-◌, ◌*◌, ◌≤◌, ◌<◌, true, false, List, ℕ, length, take, slice_range, Ok, Err, IfSome, IfOk, OnOk};
+ghost use Rattle.std.specs.declared.io.Error.{Error};
 ghost use Rattle.std.specs.Io.{ReadsAtMost};
+ghost use Rattle.std.specs.Io.KnownBytes.{Keeps, Appends, Consumes, IsAtEnd};
 ghost use Rattle.text_rules.specs.Demands.{schedule_room};
+ghost use Rattle.listing_rules.specs.Lent.{answer_to, out_after};
+ghost use Rattle.listing_rules.specs.Listing.{listing_of};
 ghost use Rattle.listing_rules.specs.Demands.{listing_room, short_schedule_room, short_listing_room};
 
 use line_rules::Written;
-use std::fmt;
-use std::io;
 use std::io::{ErrorKind, Read, Write};
 use std::process::ExitCode;
+use std::{fmt, io};
 
 // Room for the most schedule numbers, and for the longest listing: a line for each of them, the open line and the left line, each as long
 // as the longest. These are the rooms of the listing's theorem that no text finds them too short.
@@ -52,11 +55,13 @@ fn short_listing_area() -> [u8; SHORT_BYTES]
     [0; SHORT_BYTES]
 }
 
-// Room for a text, and for one byte more than a text may have, so that a longer one is seen.
-fn text_area() -> [u8; 65536]
+// One byte more than a text may have, so that a longer one is seen.
+const TEXT: usize = 65536;
+
+fn text_area() -> [u8; TEXT]
     ensures { 65536 ≡ length result }
 {
-    [0; 65536]
+    [0; TEXT]
 }
 
 // How many bytes are moved so far, whether another call is to be made, and whether the last one found that nothing is left to move.
@@ -68,7 +73,8 @@ struct Moved {
 }
 
 fn nothing_moved() -> Moved
-    ensures { result.count ≡ 0 }
+    ensures count { result.count ≡ 0 }
+    ensures ended { result.has_ended ≡ false }
 {
     Moved {
         count: 0,
@@ -79,7 +85,8 @@ fn nothing_moved() -> Moved
 
 // What a call's answer says, where `count` bytes are moved with its own. A call that was interrupted is made again.
 fn after(answer: io::Result<usize>, count: usize) -> io::Result<Moved>
-    ensures { IfOk result (λ m. m.count ≡ count) }
+    ensures count { IfOk result (λ m. m.count ≡ count) }
+    ensures ended { IfOk result (λ m. m.has_ended ≡ true → answer ≡ Ok 0) }
 {
     match answer {
         Ok(n) => Ok(Moved {
@@ -98,7 +105,11 @@ fn after(answer: io::Result<usize>, count: usize) -> io::Result<Moved>
 
 fn read_on<R: Read>(input: &mut R, area: &mut [u8], done: usize) -> io::Result<Moved>
     requires { done ≤ length area.old }
-    ensures { IfOk result (λ m. m.count ≤ length area.new) }
+    ensures within { IfOk result (λ m. m.count ≤ length area.new) }
+    ensures front { take done area.new ≡ take done area.old }
+    ensures bytes { IfOk result (λ m. (done ≤ m.count)
+        × Consumes (R.remaining input.old) (R.remaining input.new) (slice_range area.new done m.count)) }
+    ensures end { IfOk result (λ m. m.has_ended ≡ true → m.count < length area.new → IsAtEnd (R.remaining input.new)) }
 {
     let answer = input.read(&mut area[done..]);
     after(answer, done + answer.unwrap_or(0))
@@ -106,7 +117,9 @@ fn read_on<R: Read>(input: &mut R, area: &mut [u8], done: usize) -> io::Result<M
 
 fn write_on<W: Write>(output: &mut W, bytes: &[u8], done: usize) -> io::Result<Moved>
     requires { done ≤ length bytes.now }
-    ensures { IfOk result (λ m. m.count ≤ length bytes.now) }
+    ensures within { IfOk result (λ m. m.count ≤ length bytes.now) }
+    ensures bytes { IfOk result (λ m. (done ≤ m.count)
+        × Appends (W.contents output.old) (W.contents output.new) (slice_range bytes.now done m.count)) }
 {
     let answer = output.write(&bytes[done..]);
     after(answer, done + answer.unwrap_or(0))
@@ -115,7 +128,9 @@ fn write_on<W: Write>(output: &mut W, bytes: &[u8], done: usize) -> io::Result<M
 // Reads until the area is full, the input ends or a read fails, and answers how many bytes then stand at its front. Nothing says that
 // interruptions end, so the loop counts its turns, up to a number that no run uses up.
 fn read_all<R: Read>(input: &mut R, area: &mut [u8]) -> io::Result<usize>
-    ensures { ReadsAtMost result area.new }
+    ensures bound { ReadsAtMost result area.new }
+    ensures bytes { IfOk result (λ n. Consumes (R.remaining input.old) (R.remaining input.new) (take n area.new)) }
+    ensures end { IfOk result (λ n. n < length area.new → IsAtEnd (R.remaining input.new)) }
 {
     let mut m = nothing_moved();
     let mut turns = u64::MAX;
@@ -132,7 +147,9 @@ fn read_all<R: Read>(input: &mut R, area: &mut [u8]) -> io::Result<usize>
 }
 
 // Writes until all bytes are written or a write fails.
-fn write_all<W: Write>(output: &mut W, bytes: &[u8]) -> io::Result<()> {
+fn write_all<W: Write>(output: &mut W, bytes: &[u8]) -> io::Result<()>
+    ensures { OnOk result (Appends (W.contents output.old) (W.contents output.new) bytes.now) }
+{
     let mut m = nothing_moved();
     let mut turns = u64::MAX;
     while turns > 0 && m.goes_on && m.count < bytes.len() {
@@ -153,7 +170,11 @@ fn print_listing<W: Write>(
     text: &[u8],
     schedule: &mut [i32],
     out: &mut [u8],
-) -> io::Result<()> {
+) -> io::Result<()>
+    ensures { OnOk result (Appends (W.contents output.old) (W.contents output.new)
+        (take (answer_to (length schedule.old) text.now (length out.old)).length
+        (out_after (length schedule.old) text.now out.old))) }
+{
     let listed = listing::list(text, schedule, out);
     let length = listed.length;
     write_all(output, &out[..length])
@@ -161,20 +182,34 @@ fn print_listing<W: Write>(
 
 fn play_short<W: Write>(output: &mut W, text: &[u8]) -> io::Result<()>
     requires { length text.now < 2 * short_schedule_room }
+    ensures { OnOk result (Appends (W.contents output.old) (W.contents output.new) (listing_of text.now)) }
 {
     let mut schedule = short_schedule_area();
     let mut out = short_listing_area();
     print_listing(output, text, &mut schedule, &mut out)
 }
 
-fn play_long<W: Write>(output: &mut W, text: &[u8]) -> io::Result<()> {
+fn play_long<W: Write>(output: &mut W, text: &[u8]) -> io::Result<()>
+    ensures { OnOk result (Appends (W.contents output.old) (W.contents output.new) (listing_of text.now)) }
+{
     let mut schedule = schedule_area();
     let mut out = listing_area();
     print_listing(output, text, &mut schedule, &mut out)
 }
 
+// Lists the text in areas of its size.
+fn play<W: Write>(output: &mut W, text: &[u8]) -> io::Result<()>
+    ensures { OnOk result (Appends (W.contents output.old) (W.contents output.new) (listing_of text.now)) }
+{
+    if text.len() < SHORT {
+        play_short(output, text)
+    } else {
+        play_long(output, text)
+    }
+}
+
 // Why no listing, or not all of it, was written.
-#[derive(Debug, Drop)]
+#[derive(Drop)]
 enum Failure {
     Reading(io::Error),
     Writing(io::Error),
@@ -189,16 +224,21 @@ impl fmt::Display for Failure {
     }
 }
 
-// Reads the text, and writes its listing.
-fn run<R: Read, W: Write>(input: &mut R, output: &mut W) -> Result<(), Failure> {
+// Reads the text, as far as there is room for it, and writes its listing. Where it could not be read, nothing is written.
+fn run<R: Read, W: Write>(input: &mut R, output: &mut W) -> Result<(), Failure>
+    ensures lists { OnOk result (IfSome (R.remaining input.old) (λ xs.
+        Appends (W.contents output.old) (W.contents output.new) (listing_of (take 65536 xs)))) }
+    ensures kept { (e : Error) → result ≡ Err (Failure.Reading e) → Keeps (W.contents output.old) (W.contents output.new) }
+{
     let mut text = text_area();
-    let n = read_all(input, &mut text).map_err(Failure::Reading)?;
-    let played = if n < SHORT {
-        play_short(output, &text[..n])
-    } else {
-        play_long(output, &text[..n])
+    let n = match read_all(input, &mut text) {
+        Ok(n) => n,
+        Err(e) => return Err(Failure::Reading(e)),
     };
-    played.map_err(Failure::Writing)
+    match play(output, &text[..n]) {
+        Ok(()) => Ok(()),
+        Err(e) => Err(Failure::Writing(e)),
+    }
 }
 
 fn main(rt: HostRuntime) -> ExitCode {
