@@ -1,8 +1,5 @@
 -- What is put into an area, and where.
-use Prim.Native.Nat.{ℕ, _+_}
-use mathlib.Core.Path.{_≡_}
-use mathlib.Core.List.{List, _++_}
-use lib.ListN.{length, take, drop}
+use Rattle.std.specs.Prelude.{ℕ, ◌+◌, ◌≡◌, List, ◌++◌, length, take, drop}
 
 -- an area with the bytes s in it from `at` on
 unfoldable pub over : List ℕ → ℕ → List ℕ → List ℕ

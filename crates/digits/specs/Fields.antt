@@ -1,9 +1,7 @@
 -- The numbers of a line as the code has them: naturals, which may be wider than the 32 bits of a public call's numbers.
-use Prim.Native.Nat.{ℕ, _+_, _≤_}
-use mathlib.Core.List.{List, [], _∷_}
-use lib.ListN.{length}
-use Rattle·line_rules.specs.Decimal.{decimal}
-use Rattle·line_rules.specs.Line.{space}
+use Rattle.std.specs.Prelude.{ℕ, ◌+◌, ◌≤◌, List, [], ◌∷◌, length}
+use Rattle.line_rules.specs.Decimal.{decimal}
+use Rattle.line_rules.specs.Line.{space}
 
 -- a number after its space
 abbrev pub field : ℕ → List ℕ

@@ -1,19 +1,15 @@
 // The bytes of a line, as the line writer puts them into an area: those of a word, and a number's digits, which are counted first.
-ghost use mathlib.Core.Path.{_≡_};
-ghost use mathlib.Core.List.{[], _∷_};
-ghost use Prim.Native.Nat.{_+_, _≤_, _<_};
-ghost use lib.Dec.{leb};
-ghost use lib.ListN.{length};
-ghost use Rattle·line_rules.specs.Decimal.{decimal};
-ghost use Rattle·digits·specs.specs.Area.{Put};
-ghost use Rattle·digits·specs.specs.Fields.{widths, Few};
+ghost use Rattle.std.specs.Prelude.{◌≡◌, [], ◌∷◌, ◌+◌, ◌≤◌, ◌<◌, leb, length};
+ghost use Rattle.line_rules.specs.Decimal.{decimal};
+ghost use Rattle.digits.specs.Area.{Put};
+ghost use Rattle.digits.specs.Fields.{widths, Few};
 
 // The most bytes of a number after its space: the digits of a number of 64 bits, which is wider than those that a public call takes.
 const FIELD: usize = 21;
 
 // How many digits n has.
 fn width(n: u64) -> usize
-    ensures { λ r. ⌜ (r ≡ length (decimal n)) × (r ≤ 20) ⌝ }
+    ensures { (result ≡ length (decimal n)) × (result ≤ 20) }
 {
     let mut high = n;
     let mut count: usize = 1;
@@ -26,8 +22,8 @@ fn width(n: u64) -> usize
 
 // Each put writes into the area from `at` on, and answers the place after what it wrote.
 pub fn put(area: &mut [u8], at: usize, bytes: &[u8]) -> usize
-    requires { ⌜ at + length (now bytes) ≤ length (now area) ⌝ }
-    ensures { λ r. ⌜ Put (now (area .entry)) at (now (bytes .entry)) r (now (area .exit)) ⌝ }
+    requires { at + length bytes.now ≤ length area.old }
+    ensures { Put area.old at bytes.now result area.new }
 {
     let mut i = 0;
     while i < bytes.len() {
@@ -38,8 +34,8 @@ pub fn put(area: &mut [u8], at: usize, bytes: &[u8]) -> usize
 }
 
 pub fn put_byte(area: &mut [u8], at: usize, byte: u8) -> usize
-    requires { ⌜ at < length (now area) ⌝ }
-    ensures { λ r. ⌜ Put (now (area .entry)) at (byte ∷ []) r (now (area .exit)) ⌝ }
+    requires { at < length area.old }
+    ensures { Put area.old at (byte ∷ []) result area.new }
 {
     area[at] = byte;
     at + 1
@@ -47,8 +43,8 @@ pub fn put_byte(area: &mut [u8], at: usize, byte: u8) -> usize
 
 // The last digit is found first. The digits are counted, so each is written where it belongs.
 pub fn put_number(area: &mut [u8], at: usize, n: u64) -> usize
-    requires { ⌜ at + length (decimal n) ≤ length (now area) ⌝ }
-    ensures { λ r. ⌜ Put (now (area .entry)) at (decimal n) r (now (area .exit)) ⌝ }
+    requires { at + length (decimal n) ≤ length area.old }
+    ensures { Put area.old at (decimal n) result area.new }
 {
     let end = at + width(n);
     let mut last = end - 1;
@@ -63,8 +59,8 @@ pub fn put_number(area: &mut [u8], at: usize, n: u64) -> usize
 }
 
 fn fields_width(numbers: &[u64]) -> usize
-    requires { ⌜ length (now numbers) ≤ 8 ⌝ }
-    ensures { λ r. ⌜ (r ≡ widths (now (numbers .entry))) × (r ≤ 168) ⌝ }
+    requires { length numbers.now ≤ 8 }
+    ensures { (result ≡ widths numbers.now) × (result ≤ 168) }
 {
     let mut sum = 0;
     let mut i = 0;
@@ -78,8 +74,8 @@ fn fields_width(numbers: &[u64]) -> usize
 // Whether so many bytes of words and these numbers have room after the first `at` bytes of an area. They are measured only where the
 // longest numbers would have none.
 pub fn fits(room: usize, at: usize, words: usize, numbers: &[u64]) -> bool
-    requires { ⌜ Few words (now numbers) ⌝ }
-    ensures { λ r. ⌜ r ≡ leb (at + (words + widths (now (numbers .entry)))) room ⌝ }
+    requires { Few words numbers.now }
+    ensures { result ≡ leb (at + (words + widths numbers.now)) room }
 {
     if room < at {
         return false;

@@ -1,62 +1,62 @@
 -- W4, proved: each of two requests goes by what it sees, which the other does not change, and what they write commutes.
-use mathlib.Core.Path.{_≡_, sym, ap, _∙_}
-use Rattle·rules.specs.declared.Answered.{Answered}
-use Rattle·rules.specs.declared.Ledger.{Ledger}
-use Rattle·rules.specs.declared.Outcome.{Outcome}
-use Rattle·rules.specs.declared.Request.{Request}
-use Rattle·rules.specs.Requests.{nodeIn, view, decided, changed, answered, requested}
-use Rattle·rules.specs.WellFormed.{Sound}
-use Rattle·rules.proofs.Keeps.{requested-wf, requested-good}
-use Rattle·rules.proofs.Record.{rules, sound}
-use Rattle·either_order·specs.specs.Demands.{Apart, SameInEitherOrder, EitherOrder, OthersUnseen}
-use Rattle·either_order·proofs.proofs.Free.{Free, flip-free, flip-apart, free}
-use Rattle·either_order·proofs.proofs.Decides.{goes-by-sight}
-use Rattle·either_order·proofs.proofs.Unseen.{unseen}
-use Rattle·either_order·proofs.proofs.Deeds.{deed-of, changes-commute}
+use mathlib.Core.Path.{◌≡◌, sym, ap, ◌∙◌}
+use Rattle.rules.specs.declared.Answered.{Answered}
+use Rattle.rules.specs.declared.Ledger.{Ledger}
+use Rattle.rules.specs.declared.Outcome.{Outcome}
+use Rattle.rules.specs.declared.Request.{Request}
+use Rattle.rules.specs.Requests.{node_in, view, decided, changed, answered, requested}
+use Rattle.rules.specs.WellFormed.{Sound}
+use Rattle.rules.proofs.Keeps.{requested_wf, requested_good}
+use Rattle.rules.proofs.Record.{rules, sound}
+use Rattle.either_order.specs.Demands.{Apart, SameInEitherOrder, EitherOrder, OthersUnseen}
+use Rattle.either_order.proofs.Free.{Free, flip_free, flip_apart, free}
+use Rattle.either_order.proofs.Decides.{goes_by_sight}
+use Rattle.either_order.proofs.Unseen.{unseen}
+use Rattle.either_order.proofs.Deeds.{deed_of, changes_commute}
 
-pub others-unseen : OthersUnseen
-others-unseen l r s good apart e = unseen l r s good apart (free l r s e)
+pub others_unseen : OthersUnseen
+others_unseen l r s good apart e = unseen l r s good apart (free l r s e)
 
 -- every request leaves a sound ledger
-pub still-sound : (l : Ledger) (r : Request) → Sound l → Sound (requested l r .ledger)
-still-sound l r good = sound (requested l r .ledger) (requested-good l r (rules l good))
+pub still_sound : (l : Ledger) (r : Request) → Sound l → Sound (requested l r).ledger
+still_sound l r good = sound (requested l r).ledger (requested_good l r (rules l good))
 
 -- s after r
 module _ (l : Ledger) (r s : Request) (good : Sound l) (apart : Apart l r s) (ok : Free l r s) where
   abbrev next : Ledger
-  next = requested l r .ledger
+  next = (requested l r).ledger
 
-  same-decision : decided (view next (nodeIn s)) s ≡ decided (view l (nodeIn s)) s
-  same-decision = goes-by-sight next l s (unseen l r s good apart ok)
+  same_decision : decided (view next (node_in s)) s ≡ decided (view l (node_in s)) s
+  same_decision = goes_by_sight next l s (unseen l r s good apart ok)
 
-  then-answered : requested next s ≡ answered next s
-  then-answered = requested-wf next s (requested-good l r (rules l good))
+  then_answered : requested next s ≡ answered next s
+  then_answered = requested_wf next s (requested_good l r (rules l good))
 
-  second-answer : requested next s .answer ≡ requested l s .answer
+  second_answer : (requested next s).answer ≡ (requested l s).answer
   unfolding answered
-  second-answer =
-      ap (λ (a : Answered). a .answer) then-answered
-      ∙ (ap (λ (o : Outcome). o .answer) same-decision ∙ ap (λ (a : Answered). a .answer) (sym (requested-wf l s (rules l good))))
+  second_answer =
+      ap (λ (a : Answered). a.answer) then_answered
+      ∙ (ap (λ (o : Outcome). o.answer) same_decision ∙ ap (λ (a : Answered). a.answer) (sym (requested_wf l s (rules l good))))
 
-  both-change : requested next s .ledger
-      ≡ changed (changed l (nodeIn r) (decided (view l (nodeIn r)) r .change)) (nodeIn s) (decided (view l (nodeIn s)) s .change)
+  both_change : (requested next s).ledger
+      ≡ changed (changed l (node_in r) (decided (view l (node_in r)) r).change) (node_in s) (decided (view l (node_in s)) s).change
   unfolding answered
-  both-change =
-      ap (λ (a : Answered). a .ledger) then-answered
-      ∙ (ap (λ (o : Outcome). changed next (nodeIn s) (o .change)) same-decision
-      ∙ ap (λ (a : Answered). changed (a .ledger) (nodeIn s) (decided (view l (nodeIn s)) s .change)) (requested-wf l r (rules l good)))
+  both_change =
+      ap (λ (a : Answered). a.ledger) then_answered
+      ∙ (ap (λ (o : Outcome). changed next (node_in s) o.change) same_decision
+      ∙ ap (λ (a : Answered). changed a.ledger (node_in s) (decided (view l (node_in s)) s).change) (requested_wf l r (rules l good)))
 
 -- of two requests that are no exception
-pub either-way : (l : Ledger) (r s : Request) → Sound l → Apart l r s → Free l r s → SameInEitherOrder l r s
-either-way l r s good apart ok =
+pub either_way : (l : Ledger) (r s : Request) → Sound l → Apart l r s → Free l r s → SameInEitherOrder l r s
+either_way l r s good apart ok =
     record {
       ledger =
-          both-change l r s good apart ok
-          ∙ (changes-commute l (rules l good) (nodeIn r) (nodeIn s) _ _ (apart .first) (apart .second) (apart .differ) (ok .kinds .splits) (ok .kinds .first-stays) (ok .kinds .second-stays) (ok .kinds .first-keeps) (ok .kinds .second-keeps) (deed-of l r) (deed-of l s)
-          ∙ sym (both-change l s r good (flip-apart apart) (flip-free ok)));
-      first = second-answer l s r good (flip-apart apart) (flip-free ok);
-      second = second-answer l r s good apart ok;
+          both_change l r s good apart ok
+          ∙ (changes_commute l (rules l good) (node_in r) (node_in s) _ _ apart.first apart.second apart.differ ok.kinds.splits ok.kinds.first_stays ok.kinds.second_stays ok.kinds.first_keeps ok.kinds.second_keeps (deed_of l r) (deed_of l s)
+          ∙ sym (both_change l s r good (flip_apart apart) (flip_free ok)));
+      first = second_answer l s r good (flip_apart apart) (flip_free ok);
+      second = second_answer l r s good apart ok;
     }
 
-pub either-order : EitherOrder
-either-order l r s good apart e = either-way l r s good apart (free l r s e)
+pub either_order : EitherOrder
+either_order l r s good apart e = either_way l r s good apart (free l r s e)

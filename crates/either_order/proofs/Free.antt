@@ -1,50 +1,50 @@
 -- Two requests that are no exception, as plain facts: they say the same of the two whichever comes first.
-use mathlib.Core.Path.{_≡_, refl, sym, _∙_}
-use mathlib.Core.Logic.{_≢_}
-use mathlib.Core.Bool.{Bool, true, false, _||_, or-true, true≢false}
-use Prim.Native.Nat.{_+_, _≤_}
+use mathlib.Core.Path.{◌≡◌, refl, sym, ◌∙◌}
+use mathlib.Core.Logic.{◌≢◌}
+use mathlib.Core.Bool.{Bool, true, false, ◌||◌, or_true, true≢false}
+use Prim.Native.Nat.{◌+◌, ◌≤◌}
 use native.Mathlib.Omega.{arith}
 use borrow.Author.Tests.{eq-eqb}
-use Rattle·numbers.specs.Fields.{natOf}
-use Rattle·rules.specs.declared.Ledger.{Ledger}
-use Rattle·rules.specs.declared.Request.{Request}
-use Rattle·rules.specs.Asks.{MARK, EXPAND, PUSH, FOLD}
-use Rattle·rules.proofs.Facts.{both, ltb-f}
-use Rattle·either_order·specs.specs.Demands.{Apart}
-use Rattle·either_order·specs.specs.Exceptions.{bothSplit, eitherPushes, eitherFolds, kindsMatter, tight, bothNeedRoom, orderMatters}
-use Rattle·either_order·specs.specs.Sight.{isOf}
-use Rattle·either_order·proofs.proofs.Leaves.{load}
+use Rattle.numbers.specs.Fields.{nat_of}
+use Rattle.rules.specs.declared.Ledger.{Ledger}
+use Rattle.rules.specs.declared.Request.{Request}
+use Rattle.rules.specs.Asks.{MARK, EXPAND, PUSH, FOLD}
+use Rattle.rules.proofs.Facts.{both, ltb_f}
+use Rattle.either_order.specs.Demands.{Apart}
+use Rattle.either_order.specs.Exceptions.{both_split, either_pushes, either_folds, kinds_matter, tight, both_need_room, order_matters}
+use Rattle.either_order.specs.Sight.{is_of}
+use Rattle.either_order.proofs.Leaves.{load}
 
 -- what the kinds of the two are not
 pub record FreeKinds (r s : Request) : Type 0 where
-  pub splits : natOf (r .kind) ≡ EXPAND → natOf (s .kind) ≢ EXPAND
-  pub first-stays : natOf (r .kind) ≢ PUSH
-  pub second-stays : natOf (s .kind) ≢ PUSH
-  pub first-keeps : natOf (r .kind) ≢ FOLD
-  pub second-keeps : natOf (s .kind) ≢ FOLD
+  pub splits : nat_of r.kind ≡ EXPAND → nat_of s.kind ≢ EXPAND
+  pub first_stays : nat_of r.kind ≢ PUSH
+  pub second_stays : nat_of s.kind ≢ PUSH
+  pub first_keeps : nat_of r.kind ≢ FOLD
+  pub second_keeps : nat_of s.kind ≢ FOLD
 
 -- and that both find room for a mark
 pub record Free (l : Ledger) (r s : Request) : Type 0 where
   pub kinds : FreeKinds r s
-  pub room : natOf (r .kind) ≡ MARK → natOf (s .kind) ≡ MARK → load l + 4 ≤ l .room
+  pub room : nat_of r.kind ≡ MARK → nat_of s.kind ≡ MARK → load l + 4 ≤ l.room
 
-pub flip-free : {l : Ledger} {r s : Request} → Free l r s → Free l s r
-flip-free f =
-    let k = f .kinds in
+pub flip_free : {l : Ledger} {r s : Request} → Free l r s → Free l s r
+flip_free f =
+    let k = f.kinds in
     record {
       kinds =
           record {
-            splits = λ e e′. k .splits e′ e;
-            first-stays = k .second-stays;
-            second-stays = k .first-stays;
-            first-keeps = k .second-keeps;
-            second-keeps = k .first-keeps;
+            splits = λ e e'. k.splits e' e;
+            first_stays = k.second_stays;
+            second_stays = k.first_stays;
+            first_keeps = k.second_keeps;
+            second_keeps = k.first_keeps;
           };
-      room = λ e e′. f .room e′ e;
+      room = λ e e'. f.room e' e;
     }
 
-pub flip-apart : {l : Ledger} {r s : Request} → Apart l r s → Apart l s r
-flip-apart a = record { first = a .second; second = a .first; differ = λ e. a .differ (sym e) }
+pub flip_apart : {l : Ledger} {r s : Request} → Apart l r s → Apart l s r
+flip_apart a = record { first = a.second; second = a.first; differ = λ e. a.differ (sym e) }
 
 -- ---- read off the exceptions
 
@@ -53,57 +53,57 @@ neither true b e = absurd (true≢false e)
 neither false b e = (refl, e)
 
 module _ (r s : Request) where
-  would-split : natOf (r .kind) ≡ EXPAND → natOf (s .kind) ≡ EXPAND → bothSplit r s ≡ true
-  unfolding bothSplit
-  would-split e f = both (isOf EXPAND r) (isOf EXPAND s) .1 (eq-eqb (natOf (r .kind)) EXPAND e, eq-eqb (natOf (s .kind)) EXPAND f)
+  would_split : nat_of r.kind ≡ EXPAND → nat_of s.kind ≡ EXPAND → both_split r s ≡ true
+  unfolding both_split
+  would_split e f = (both (is_of EXPAND r) (is_of EXPAND s)).1 (eq-eqb (nat_of r.kind) EXPAND e, eq-eqb (nat_of s.kind) EXPAND f)
 
-  first-pushes : natOf (r .kind) ≡ PUSH → eitherPushes r s ≡ true
-  unfolding eitherPushes
-  first-pushes e = rw e
+  first_pushes : nat_of r.kind ≡ PUSH → either_pushes r s ≡ true
+  unfolding either_pushes
+  first_pushes e = rw e
 
-  second-pushes : natOf (s .kind) ≡ PUSH → eitherPushes r s ≡ true
-  unfolding eitherPushes
-  second-pushes e = rw e (or-true (isOf PUSH r))
+  second_pushes : nat_of s.kind ≡ PUSH → either_pushes r s ≡ true
+  unfolding either_pushes
+  second_pushes e = rw e (or_true (is_of PUSH r))
 
-  first-folds : natOf (r .kind) ≡ FOLD → eitherFolds r s ≡ true
-  unfolding eitherFolds
-  first-folds e = rw e
+  first_folds : nat_of r.kind ≡ FOLD → either_folds r s ≡ true
+  unfolding either_folds
+  first_folds e = rw e
 
-  second-folds : natOf (s .kind) ≡ FOLD → eitherFolds r s ≡ true
-  unfolding eitherFolds
-  second-folds e = rw e (or-true (isOf FOLD r))
+  second_folds : nat_of s.kind ≡ FOLD → either_folds r s ≡ true
+  unfolding either_folds
+  second_folds e = rw e (or_true (is_of FOLD r))
 
-  pub free-kinds : kindsMatter r s ≡ false → FreeKinds r s
-  unfolding kindsMatter
-  free-kinds e =
-      let g = neither (bothSplit r s || eitherPushes r s) (eitherFolds r s) e in
-      let h = neither (bothSplit r s) (eitherPushes r s) (g .0) in
+  pub free_kinds : kinds_matter r s ≡ false → FreeKinds r s
+  unfolding kinds_matter
+  free_kinds e =
+      let g = neither (both_split r s || either_pushes r s) (either_folds r s) e in
+      let h = neither (both_split r s) (either_pushes r s) g.0 in
       record {
-        splits = λ a b. true≢false (sym (would-split a b) ∙ h .0);
-        first-stays = λ a. true≢false (sym (first-pushes a) ∙ h .1);
-        second-stays = λ a. true≢false (sym (second-pushes a) ∙ h .1);
-        first-keeps = λ a. true≢false (sym (first-folds a) ∙ g .1);
-        second-keeps = λ a. true≢false (sym (second-folds a) ∙ g .1);
+        splits = λ a b. true≢false (sym (would_split a b) ∙ h.0);
+        first_stays = λ a. true≢false (sym (first_pushes a) ∙ h.1);
+        second_stays = λ a. true≢false (sym (second_pushes a) ∙ h.1);
+        first_keeps = λ a. true≢false (sym (first_folds a) ∙ g.1);
+        second_keeps = λ a. true≢false (sym (second_folds a) ∙ g.1);
       }
 
 module _ (l : Ledger) (r s : Request) where
-  needs-room : natOf (r .kind) ≡ MARK → natOf (s .kind) ≡ MARK → bothNeedRoom l r s ≡ tight l
-  unfolding bothNeedRoom
-  needs-room e f = rw (e, f)
+  needs_room : nat_of r.kind ≡ MARK → nat_of s.kind ≡ MARK → both_need_room l r s ≡ tight l
+  unfolding both_need_room
+  needs_room e f = rw (e, f)
 
-  roomy : tight l ≡ false → load l + 4 ≤ l .room
+  roomy : tight l ≡ false → load l + 4 ≤ l.room
   unfolding tight load
-  roomy e = let h = simp ltb-f at e in omega arith
+  roomy e = let h = simp ltb_f at e in omega arith
 
-  pub free : orderMatters l r s ≡ false → Free l r s
-  unfolding orderMatters
+  pub free : order_matters l r s ≡ false → Free l r s
+  unfolding order_matters
   free e =
-      let h = neither (kindsMatter r s) (bothNeedRoom l r s) e in
-      record { kinds = free-kinds r s (h .0); room = λ a b. roomy (sym (needs-room a b) ∙ h .1) }
+      let h = neither (kinds_matter r s) (both_need_room l r s) e in
+      record { kinds = free_kinds r s h.0; room = λ a b. roomy (sym (needs_room a b) ∙ h.1) }
 
 -- ---- and back, where there is room
 
-pub no-exception : (l : Ledger) (r s : Request) → kindsMatter r s ≡ false
-    → (natOf (r .kind) ≡ MARK → natOf (s .kind) ≡ MARK → load l + 4 ≤ l .room)
+pub no_exception : (l : Ledger) (r s : Request) → kinds_matter r s ≡ false
+    → (nat_of r.kind ≡ MARK → nat_of s.kind ≡ MARK → load l + 4 ≤ l.room)
     → Free l r s
-no-exception l r s e room = record { kinds = free-kinds r s e; room = room }
+no_exception l r s e room = record { kinds = free_kinds r s e; room = room }

@@ -1,42 +1,40 @@
 -- The exceptions: two requests on different nodes whose order matters. A later kind whose order matters is one more of them.
-use Prim.Native.Nat.{ℕ, _+_, _*_}
-use mathlib.Core.Bool.{Bool, _&&_, _||_}
-use lib.Dec.{ltb}
-use Rattle·rules.specs.declared.Ledger.{Ledger}
-use Rattle·rules.specs.declared.Request.{Request}
-use Rattle·rules.specs.Asks.{MARK, EXPAND, PUSH, FOLD}
-use Rattle·rules.specs.Table.{stolenIn, takenIn}
-use Rattle·either_order·specs.specs.Sight.{isOf}
+use Rattle.std.specs.Prelude.{ℕ, ◌+◌, ◌*◌, Bool, ◌&&◌, ◌||◌, ltb}
+use Rattle.rules.specs.declared.Ledger.{Ledger}
+use Rattle.rules.specs.declared.Request.{Request}
+use Rattle.rules.specs.Asks.{MARK, EXPAND, PUSH, FOLD}
+use Rattle.rules.specs.Table.{stolen_in, taken_in}
+use Rattle.either_order.specs.Sight.{is_of}
 
-abbrev pub bothAre : ℕ → Request → Request → Bool
-bothAre kind r s = isOf kind r && isOf kind s
+abbrev pub both_are : ℕ → Request → Request → Bool
+both_are kind r s = is_of kind r && is_of kind s
 
-abbrev pub eitherIs : ℕ → Request → Request → Bool
-eitherIs kind r s = isOf kind r || isOf kind s
+abbrev pub either_is : ℕ → Request → Request → Bool
+either_is kind r s = is_of kind r || is_of kind s
 
 -- "both are expands": each takes the lowest pair that is free, or else the next, so who comes first gets the lower numbers
-unfoldable pub bothSplit : Request → Request → Bool
-bothSplit r s = bothAre EXPAND r s
+unfoldable pub both_split : Request → Request → Bool
+both_split r s = both_are EXPAND r s
 
 -- "either is a push": it looks at its node's children
-unfoldable pub eitherPushes : Request → Request → Bool
-eitherPushes r s = eitherIs PUSH r s
+unfoldable pub either_pushes : Request → Request → Bool
+either_pushes r s = either_is PUSH r s
 
 -- "W4 also excludes pairs with a fold": it looks at its node's children, makes room, and frees the pair that an expand may take
-unfoldable pub eitherFolds : Request → Request → Bool
-eitherFolds r s = eitherIs FOLD r s
+unfoldable pub either_folds : Request → Request → Bool
+either_folds r s = either_is FOLD r s
 
 -- the exceptions that the kinds alone decide
-unfoldable pub kindsMatter : Request → Request → Bool
-kindsMatter r s = bothSplit r s || eitherPushes r s || eitherFolds r s
+unfoldable pub kinds_matter : Request → Request → Bool
+kinds_matter r s = both_split r s || either_pushes r s || either_folds r s
 
 -- "room for fewer than two more pairs": nodes − slots in use − 2 × (STOLEN nodes) < 4
 unfoldable pub tight : Ledger → Bool
-tight l = ltb (l .room) (takenIn l + 2 * stolenIn l + 4)
+tight l = ltb l.room (taken_in l + 2 * stolen_in l + 4)
 
 -- "both are marks" and there is not room for both: who comes first has it
-unfoldable pub bothNeedRoom : Ledger → Request → Request → Bool
-bothNeedRoom l r s = bothAre MARK r s && tight l
+unfoldable pub both_need_room : Ledger → Request → Request → Bool
+both_need_room l r s = both_are MARK r s && tight l
 
-unfoldable pub orderMatters : Ledger → Request → Request → Bool
-orderMatters l r s = kindsMatter r s || bothNeedRoom l r s
+unfoldable pub order_matters : Ledger → Request → Request → Bool
+order_matters l r s = kinds_matter r s || both_need_room l r s

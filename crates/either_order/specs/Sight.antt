@@ -1,24 +1,22 @@
 -- What a request sees of a ledger, and no more: its own node and a few facts, some of them of one kind alone.
-use Prim.Native.Nat.{ℕ, _+_}
-use mathlib.Core.Bool.{Bool, cond, _&&_, _||_}
-use lib.Dec.{eqb}
-use Rattle·numbers.specs.Fields.{natOf, within}
-use Rattle·rules.specs.declared.Ledger.{Ledger}
-use Rattle·rules.specs.declared.Node.{Node}
-use Rattle·rules.specs.declared.Request.{Request}
-use Rattle·rules.specs.Asks.{MARK, EXPAND, PUSH, FOLD}
-use Rattle·rules.specs.Nodes.{blank}
-use Rattle·rules.specs.Refusals.{noRoom}
-use Rattle·rules.specs.Requests.{nodeIn, view}
-use Rattle·rules.specs.Table.{at, nextPair}
+use Rattle.std.specs.Prelude.{ℕ, ◌+◌, Bool, cond, ◌&&◌, ◌||◌, eqb}
+use Rattle.numbers.specs.Fields.{nat_of, within}
+use Rattle.rules.specs.declared.Ledger.{Ledger}
+use Rattle.rules.specs.declared.Node.{Node}
+use Rattle.rules.specs.declared.Request.{Request}
+use Rattle.rules.specs.Asks.{MARK, EXPAND, PUSH, FOLD}
+use Rattle.rules.specs.Nodes.{blank}
+use Rattle.rules.specs.Refusals.{no_room}
+use Rattle.rules.specs.Requests.{node_in, view}
+use Rattle.rules.specs.Table.{at, next_pair}
 
 -- the request is of this kind
-abbrev pub isOf : ℕ → Request → Bool
-isOf kind r = eqb (natOf (r .kind)) kind
+abbrev pub is_of : ℕ → Request → Bool
+is_of kind r = eqb (nat_of r.kind) kind
 
 -- a push and a fold look at their node's children
-unfoldable pub looksDown : Request → Bool
-looksDown r = isOf PUSH r || isOf FOLD r
+unfoldable pub looks_down : Request → Bool
+looks_down r = is_of PUSH r || is_of FOLD r
 
 pub record Sight : Type 0 where
   pub teams : ℕ
@@ -36,11 +34,11 @@ pub record Sight : Type 0 where
 unfoldable pub sight : Ledger → Request → Sight
 sight l r =
     record {
-      teams = l .teams;
-      known = within (r .node) 1 (l .used);
-      node = at l (nodeIn r);
-      full = isOf MARK r && noRoom (view l (nodeIn r));
-      pair = cond (isOf EXPAND r) (nextPair l) 0;
-      left = cond (looksDown r) (at l (at l (nodeIn r) .left)) blank;
-      right = cond (looksDown r) (at l (at l (nodeIn r) .left + 1)) blank;
+      teams = l.teams;
+      known = within r.node 1 l.used;
+      node = at l (node_in r);
+      full = is_of MARK r && no_room (view l (node_in r));
+      pair = cond (is_of EXPAND r) (next_pair l) 0;
+      left = cond (looks_down r) (at l (at l (node_in r)).left) blank;
+      right = cond (looks_down r) (at l ((at l (node_in r)).left + 1)) blank;
     }

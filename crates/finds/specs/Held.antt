@@ -1,25 +1,23 @@
 -- The joined result as 32 bits hold it: a count past them is no count of a ledger, and the largest stands in for it. Within them it is the
 -- rules' joined result.
-use Prim.Native.Nat.{ℕ, _≤_, min}
-use mathlib.Core.Path.{_≡_}
-use mathlib.Core.List.{[], _∷_}
-use Rattle·rules.specs.declared.Finds.{Finds}
-use Rattle·rules.specs.Joining.{finds, none, joinAll}
+use Rattle.std.specs.Prelude.{ℕ, ◌≤◌, min, ◌≡◌, [], ◌∷◌}
+use Rattle.rules.specs.declared.Finds.{Finds}
+use Rattle.rules.specs.Joining.{finds, none, join_all}
 
 -- the largest number of 32 bits
-abbrev pub mostHeld : ℕ
-mostHeld = 4294967295
+abbrev pub most_held : ℕ
+most_held = 4294967295
 
-unfoldable pub heldJoin : Finds → Finds → Finds → Finds
-heldJoin own left right =
-    let f = joinAll (own ∷ left ∷ right ∷ []) in
-    finds (min (f .count) mostHeld) (f .first) (f .last)
+unfoldable pub held_join : Finds → Finds → Finds → Finds
+held_join own left right =
+    let f = join_all (own ∷ left ∷ right ∷ []) in
+    finds (min f.count most_held) f.first f.last
 
 abbrev pub JoinWithin : Type 0
 JoinWithin =
-    (own left right : Finds) → joinAll (own ∷ left ∷ right ∷ []) .count ≤ mostHeld
-    → heldJoin own left right ≡ joinAll (own ∷ left ∷ right ∷ [])
+    (own left right : Finds) → (join_all (own ∷ left ∷ right ∷ [])).count ≤ most_held
+    → held_join own left right ≡ join_all (own ∷ left ∷ right ∷ [])
 
 -- Nothing joined twice to a result is the result by itself.
 abbrev pub NoneAfter : Type 0
-NoneAfter = (own : Finds) → joinAll (own ∷ none ∷ none ∷ []) ≡ joinAll (own ∷ [])
+NoneAfter = (own : Finds) → join_all (own ∷ none ∷ none ∷ []) ≡ join_all (own ∷ [])

@@ -1,29 +1,25 @@
 // Well formed: the rules over the table, group by group. Each test is total: a ledger handed in may hold any numbers.
-ghost use mathlib.Core.Path.{_≡_};
-ghost use mathlib.Core.Bool.{cond, _&&_};
-ghost use Prim.Native.Nat.{ℕ, _+_, _≤_, _<_};
-ghost use lib.Dec.{ltb};
-ghost use lib.ListN.{length, getD};
-ghost use Rattle·rules.specs.Limits.{maxNodes};
-ghost use Rattle·rules.specs.Nodes.{isBlank};
-ghost use Rattle·rules.specs.Table.{leftAt, sumBy, stolenIn, takenIn};
-ghost use Rattle·rules.specs.WellFormed.{upTo, numbersRule, rootRange, aloneRule, childRule, stageRule, nodeRule, leftIs, pairRule, reachRule, roomRule, unusedRule, wellFormed};
-use rules::Ledger;
-use rules::Node;
-use rules::Opening;
+ghost use Rattle.std.specs.Prelude.{◌≡◌, cond, ◌&&◌, ℕ, ◌+◌, ◌≤◌, ◌<◌, ltb, length, get_or};
+ghost use Rattle.rules.specs.Limits.{max_nodes};
+ghost use Rattle.rules.specs.Nodes.{is_blank};
+ghost use Rattle.rules.specs.Table.{left_at, sum_by, stolen_in, taken_in};
+ghost use Rattle.rules.specs.WellFormed.{up_to, numbers_rule, root_range, alone_rule, child_rule, stage_rule, node_rule, left_is, pair_rule, reach_rule, room_rule, unused_rule, well_formed};
+
+use rules::{Ledger, Node, Opening};
 
 // The slots of the table, as a number of nodes.
 const SLOTS: u32 = Opening::NODES as u32;
 // The tally has a place for each number from 0 to the last node's.
 const PLACES: usize = Opening::NODES + 1;
 
+#[derive(Drop)]
 pub struct Load {
     pub taken: u32,
     pub stolen: u32,
 }
 
 fn numbers_ok(l: Ledger) -> bool
-    ensures { λ r. ⌜ r ≡ numbersRule l ⌝ }
+    ensures { result ≡ numbers_rule l }
 {
     let range = (l.start <= l.until) & (l.until <= Opening::UNTIL);
     let teams = (1 <= l.teams) & (l.teams <= Opening::TEAMS);
@@ -33,7 +29,7 @@ fn numbers_ok(l: Ledger) -> bool
 }
 
 fn root_ok(l: Ledger) -> bool
-    ensures { λ r. ⌜ r ≡ rootRange l ⌝ }
+    ensures { result ≡ root_range l }
 {
     let x = l.nodes[0];
     (x.start == l.start) & (x.until == l.until)
@@ -41,7 +37,7 @@ fn root_ok(l: Ledger) -> bool
 
 // The slot of a right child, by the left one's number: that number itself, where a pair can stand at it.
 fn pair_slot(left: u32) -> usize
-    ensures { λ r. ⌜ (1 ≤ r) × (r < maxNodes) × ((1 ≤ left) → (left < maxNodes) → r ≡ left) ⌝ }
+    ensures { (1 ≤ result) × (result < max_nodes) × ((1 ≤ left) → (left < max_nodes) → result ≡ left) }
 {
     if left < 1 {
         return 1;
@@ -54,14 +50,14 @@ fn pair_slot(left: u32) -> usize
 
 // Whether both slots of a pair are all 0.
 fn pair_free(a: Node, b: Node) -> bool
-    ensures { λ r. ⌜ r ≡ (isBlank a && isBlank b) ⌝ }
+    ensures { result ≡ (is_blank a && is_blank b) }
 {
     nodes::formed::blank_ok(a) & nodes::formed::blank_ok(b)
 }
 
 // The rules of a node that is in use.
 fn family_ok(teams: u32, used: u32, x: Node, a: Node, b: Node) -> bool
-    ensures { λ r. ⌜ r ≡ (aloneRule teams x && childRule used x a b && stageRule x a b) ⌝ }
+    ensures { result ≡ (alone_rule teams x && child_rule used x a b && stage_rule x a b) }
 {
     let alone = nodes::formed::alone_ok(teams, x);
     let child = nodes::formed::child_ok(used, x, a, b);
@@ -71,8 +67,8 @@ fn family_ok(teams: u32, used: u32, x: Node, a: Node, b: Node) -> bool
 
 // A free slot has no rule of a node; the root is none.
 fn nodes_ok(l: Ledger) -> bool
-    requires { ⌜ l .used ≤ maxNodes ⌝ }
-    ensures { λ r. ⌜ r ≡ upTo (nodeRule l) (l .used) ⌝ }
+    requires { l.used ≤ max_nodes }
+    ensures { result ≡ up_to (node_rule l) l.used }
 {
     let used = l.used;
     let teams = l.teams;
@@ -99,7 +95,7 @@ fn nodes_ok(l: Ledger) -> bool
 
 // A number at which a pair can stand as itself, and any other as the last place of the tally.
 fn tally_slot(left: u32) -> usize
-    ensures { λ r. ⌜ (r ≤ maxNodes) × ((left < maxNodes) → r ≡ left) × ((maxNodes ≤ left) → r ≡ maxNodes) ⌝ }
+    ensures { (result ≤ max_nodes) × ((left < max_nodes) → result ≡ left) × ((max_nodes ≤ left) → result ≡ max_nodes) }
 {
     if left < SLOTS {
         left as usize
@@ -110,7 +106,7 @@ fn tally_slot(left: u32) -> usize
 
 // At each number at which a pair can stand, how many nodes have it for left child.
 fn tally(l: Ledger) -> [u32; PLACES]
-    ensures { λ r. ⌜ ((c : ℕ) → c < maxNodes → getD r c 0 ≡ sumBy (leftIs c) (l .nodes)) ⌝ }
+    ensures { (c : ℕ) → c < max_nodes → get_or result c 0 ≡ sum_by (left_is c) l.nodes }
 {
     let mut seen = [0u32; PLACES];
     let mut i: usize = 0;
@@ -126,15 +122,15 @@ fn tally(l: Ledger) -> [u32; PLACES]
 
 // How many parents a pair must have, by what stands in its slots: a free one has none.
 fn parents_due(a: Node, b: Node) -> u32
-    ensures { λ r. ⌜ r ≡ cond (isBlank a && isBlank b) 0 1 ⌝ }
+    ensures { result ≡ cond (is_blank a && is_blank b) 0 1 }
 {
     numbers::pick(pair_free(a, b), 0, 1)
 }
 
 // At an odd number the slots of the pair before it are read, and not tested.
 fn pairs_ok(l: Ledger) -> bool
-    requires { ⌜ l .used ≤ maxNodes ⌝ }
-    ensures { λ r. ⌜ r ≡ upTo (pairRule l) (l .used) ⌝ }
+    requires { l.used ≤ max_nodes }
+    ensures { result ≡ up_to (pair_rule l) l.used }
 {
     let used = l.used;
     let seen = tally(l);
@@ -155,7 +151,7 @@ fn pairs_ok(l: Ledger) -> bool
 
 // The left child of each node.
 fn lefts_of(l: Ledger) -> [u32; Opening::NODES]
-    ensures { λ r. ⌜ (length r ≡ maxNodes) × ((i : ℕ) → i < maxNodes → getD r i 0 ≡ leftAt l (i + 1)) ⌝ }
+    ensures { (length result ≡ max_nodes) × ((i : ℕ) → i < max_nodes → get_or result i 0 ≡ left_at l (i + 1)) }
 {
     let mut lefts = [0u32; Opening::NODES];
     let mut i: usize = 0;
@@ -169,8 +165,8 @@ fn lefts_of(l: Ledger) -> [u32; Opening::NODES]
 
 // Whether a walk from the root meets each slot in use once, and no other.
 fn reach_ok(l: Ledger) -> bool
-    requires { ⌜ l .used ≤ maxNodes ⌝ }
-    ensures { λ r. ⌜ r ≡ upTo (reachRule l) (l .used) ⌝ }
+    requires { l.used ≤ max_nodes }
+    ensures { result ≡ up_to (reach_rule l) l.used }
 {
     let used = l.used;
     let seen = walks::meetings(lefts_of(l), used);
@@ -189,7 +185,7 @@ fn reach_ok(l: Ledger) -> bool
 
 // What counts against the room: the slots in use, and the STOLEN nodes, each of which keeps two more.
 pub fn load_in(l: Ledger) -> Load
-    ensures { λ r. ⌜ (r .taken ≡ takenIn l) × (r .stolen ≡ stolenIn l) ⌝ }
+    ensures { (result.taken ≡ taken_in l) × (result.stolen ≡ stolen_in l) }
 {
     let mut taken: u32 = 0;
     let mut stolen: u32 = 0;
@@ -207,14 +203,14 @@ pub fn load_in(l: Ledger) -> Load
 }
 
 fn room_ok(l: Ledger) -> bool
-    ensures { λ r. ⌜ r ≡ roomRule l ⌝ }
+    ensures { result ≡ room_rule l }
 {
     let k = load_in(l);
     (k.taken as u64) + 2 * (k.stolen as u64) <= (l.room as u64)
 }
 
 fn unused_ok(l: Ledger) -> bool
-    ensures { λ r. ⌜ r ≡ upTo (unusedRule l) maxNodes ⌝ }
+    ensures { result ≡ up_to (unused_rule l) max_nodes }
 {
     let used = l.used;
     let mut ok = true;
@@ -231,7 +227,7 @@ fn unused_ok(l: Ledger) -> bool
 
 // Whether a ledger, of any numbers at all, is well formed.
 pub fn well_formed(l: Ledger) -> bool
-    ensures { λ r. ⌜ r ≡ wellFormed l ⌝ }
+    ensures { result ≡ well_formed l }
 {
     if numbers_ok(l) {
         let root = root_ok(l);

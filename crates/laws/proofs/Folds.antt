@@ -1,68 +1,68 @@
 -- The worked run with folds, by computation.
-use mathlib.Core.Path.{_≡_, refl, ap, _∙_}
-use mathlib.Core.List.{List, [], _∷_}
+use mathlib.Core.Path.{◌≡◌, refl, ap, ◌∙◌}
+use mathlib.Core.List.{List, [], ◌∷◌}
 use Prim.Native.Nat.{ℕ}
-use Rattle·rules.specs.declared.Ledger.{Ledger}
-use Rattle·rules.specs.declared.Request.{Request}
-use Rattle·rules.specs.Joining.{sameFinds, reportable, joinAll, join}
-use Rattle·rules.specs.Limits.{opens}
-use Rattle·rules.specs.Nodes.{usedOf, middle, leftPart, rightPart, joinedOf}
-use Rattle·rules.specs.Opening.{opened, opening, ledgerOf}
-use Rattle·rules.specs.Refusals.{ownCode, advanceCode, markCode, expandCode, reportCode, pushCode, foldCode, kindCode, refusal}
-use Rattle·rules.specs.Requests.{owning, batchEnd, advancing, marking, expanding, looking, reporting, pushing, folding, granted, decided, view, changed, answered}
-use Rattle·rules.specs.States.{stateOf, stolenOf, ended, unready, overfull}
-use Rattle·rules.specs.Table.{at, put, freeFrom, nextPair, grown, sumBy, stolenIn, takenIn}
-use Rattle·laws·specs.specs.Folds.{lesson, asked, codes, codesGiven, told, FoldExample}
-use Rattle·laws·specs.specs.Listing.{sheets}
-use Rattle·laws·specs.specs.Story.{whole, onNode, told as toldBy, sheetsOf, read, unclaimedAt}
-use Rattle·rules.proofs.Keeps.{requested-wf, wf-answered}
-use Rattle·rules.proofs.Opens.{opened-wf}
-use Rattle·rules.proofs.Record.{WF}
-use Rattle·laws·proofs.proofs.Played.{played, toldPlayed, played-is, told-is}
+use Rattle.rules.specs.declared.Ledger.{Ledger}
+use Rattle.rules.specs.declared.Request.{Request}
+use Rattle.rules.specs.Joining.{same_finds, reportable, join_all, join}
+use Rattle.rules.specs.Limits.{opens}
+use Rattle.rules.specs.Nodes.{used_of, middle, left_part, right_part, joined_of}
+use Rattle.rules.specs.Opening.{opened, opening, ledger_of}
+use Rattle.rules.specs.Refusals.{own_code, advance_code, mark_code, expand_code, report_code, push_code, fold_code, kind_code, refusal}
+use Rattle.rules.specs.Requests.{owning, batch_end, advancing, marking, expanding, looking, reporting, pushing, folding, granted, decided, view, changed, answered}
+use Rattle.rules.specs.States.{state_of, stolen_of, ended, unready, overfull}
+use Rattle.rules.specs.Table.{at, put, free_from, next_pair, grown, sum_by, stolen_in, taken_in}
+use Rattle.laws.specs.Folds.{lesson, asked, codes, codes_given, told, FoldExample}
+use Rattle.laws.specs.Listing.{sheets}
+use Rattle.laws.specs.Story.{whole, on_node, told as told_by, sheets_of, read, unclaimed_at}
+use Rattle.rules.proofs.Keeps.{requested_wf, wf_answered}
+use Rattle.rules.proofs.Opens.{opened_wf}
+use Rattle.rules.proofs.Record.{WF}
+use Rattle.laws.proofs.Played.{played, told_played, played_is, told_is}
 
-unfoldable codesPlayed : Ledger → List Request → List ℕ
-codesPlayed l [] = []
-codesPlayed l (r ∷ rs) = answered l r .answer .code ∷ codesPlayed (answered l r .ledger) rs
+unfoldable codes_played : Ledger → List Request → List ℕ
+codes_played l [] = []
+codes_played l (r ∷ rs) = (answered l r).answer.code ∷ codes_played (answered l r).ledger rs
 
-codes-is : (l : Ledger) (rs : List Request) → WF l → codes l rs ≡ codesPlayed l rs
-unfolding codes codesPlayed
+codes-is : (l : Ledger) (rs : List Request) → WF l → codes l rs ≡ codes_played l rs
+unfolding codes codes_played
 codes-is l [] w = refl
-codes-is l (r ∷ rs) w = rw (requested-wf l r w, codes-is (answered l r .ledger) rs (wf-answered l r w))
+codes-is l (r ∷ rs) w = rw (requested_wf l r w, codes-is (answered l r).ledger rs (wf_answered l r w))
 
 abbrev new : Ledger
-new = ledgerOf lesson
+new = ledger_of lesson
 
 good : WF new
 unfolding opens
-good = opened-wf lesson refl
+good = opened_wf lesson refl
 
-computed-codes : codesPlayed new asked ≡ codesGiven
-unfolding codesPlayed opened answered view changed decided granted refusal kindCode ownCode advanceCode markCode expandCode reportCode pushCode foldCode owning batchEnd advancing marking expanding looking reporting pushing folding middle leftPart rightPart joinedOf joinAll join sameFinds reportable stateOf stolenOf ended unready overfull usedOf at put freeFrom nextPair grown sumBy stolenIn takenIn
-computed-codes = refl
+computed_codes : codes_played new asked ≡ codes_given
+unfolding codes_played opened answered view changed decided granted refusal kind_code own_code advance_code mark_code expand_code report_code push_code fold_code owning batch_end advancing marking expanding looking reporting pushing folding middle left_part right_part joined_of join_all join same_finds reportable state_of stolen_of ended unready overfull used_of at put free_from next_pair grown sum_by stolen_in taken_in
+computed_codes = refl
 
-computed-story : toldPlayed new (whole 1 []) asked ≡ told
-unfolding toldPlayed toldBy onNode opened answered view changed decided granted refusal kindCode ownCode advanceCode markCode expandCode reportCode pushCode foldCode owning batchEnd advancing marking expanding looking reporting pushing folding middle leftPart rightPart joinedOf joinAll join sameFinds reportable stateOf stolenOf ended unready overfull usedOf at put freeFrom nextPair grown sumBy stolenIn takenIn
-computed-story = refl
+computed_story : told_played new (whole 1 []) asked ≡ told
+unfolding told_played told_by on_node opened answered view changed decided granted refusal kind_code own_code advance_code mark_code expand_code report_code push_code fold_code owning batch_end advancing marking expanding looking reporting pushing folding middle left_part right_part joined_of join_all join same_finds reportable state_of stolen_of ended unready overfull used_of at put free_from next_pair grown sum_by stolen_in taken_in
+computed_story = refl
 
-computed-sheets : read (unclaimedAt (played new asked)) told ≡ 0 ∷ 1 ∷ 2 ∷ 3 ∷ 4 ∷ 5 ∷ 6 ∷ 7 ∷ []
-unfolding played read sheetsOf sheets opened answered view changed decided granted refusal kindCode ownCode advanceCode markCode expandCode reportCode pushCode foldCode owning batchEnd advancing marking expanding looking reporting pushing folding middle leftPart rightPart joinedOf joinAll join sameFinds reportable stateOf stolenOf ended unready overfull usedOf at put freeFrom nextPair grown sumBy stolenIn takenIn
-computed-sheets = refl
+computed_sheets : read (unclaimed_at (played new asked)) told ≡ 0 ∷ 1 ∷ 2 ∷ 3 ∷ 4 ∷ 5 ∷ 6 ∷ 7 ∷ []
+unfolding played read sheets_of sheets opened answered view changed decided granted refusal kind_code own_code advance_code mark_code expand_code report_code push_code fold_code owning batch_end advancing marking expanding looking reporting pushing folding middle left_part right_part joined_of join_all join same_finds reportable state_of stolen_of ended unready overfull used_of at put free_from next_pair grown sum_by stolen_in taken_in
+computed_sheets = refl
 
-computed-used : played new asked .used ≡ 7
-unfolding played opened answered view changed decided granted refusal kindCode ownCode advanceCode markCode expandCode reportCode pushCode foldCode owning batchEnd advancing marking expanding looking reporting pushing folding middle leftPart rightPart joinedOf joinAll join sameFinds reportable stateOf stolenOf ended unready overfull usedOf at put freeFrom nextPair grown sumBy stolenIn takenIn
-computed-used = refl
+computed_used : (played new asked).used ≡ 7
+unfolding played opened answered view changed decided granted refusal kind_code own_code advance_code mark_code expand_code report_code push_code fold_code owning batch_end advancing marking expanding looking reporting pushing folding middle left_part right_part joined_of join_all join same_finds reportable state_of stolen_of ended unready overfull used_of at put free_from next_pair grown sum_by stolen_in taken_in
+computed_used = refl
 
-computed-taken : takenIn (played new asked) ≡ 5
-unfolding played opened answered view changed decided granted refusal kindCode ownCode advanceCode markCode expandCode reportCode pushCode foldCode owning batchEnd advancing marking expanding looking reporting pushing folding middle leftPart rightPart joinedOf joinAll join sameFinds reportable stateOf stolenOf ended unready overfull usedOf at put freeFrom nextPair grown sumBy stolenIn takenIn
-computed-taken = refl
+computed_taken : taken_in (played new asked) ≡ 5
+unfolding played opened answered view changed decided granted refusal kind_code own_code advance_code mark_code expand_code report_code push_code fold_code owning batch_end advancing marking expanding looking reporting pushing folding middle left_part right_part joined_of join_all join same_finds reportable state_of stolen_of ended unready overfull used_of at put free_from next_pair grown sum_by stolen_in taken_in
+computed_taken = refl
 
-pub fold-example : FoldExample
+pub fold_example : FoldExample
 unfolding opening opens
-fold-example =
+fold_example =
     record {
-      answers = codes-is new asked good ∙ computed-codes;
-      story = told-is new (whole 1 []) asked good ∙ computed-story;
-      reads = ap (λ (l : Ledger). read (unclaimedAt l) told) (played-is new asked good) ∙ computed-sheets;
-      used = ap (λ (l : Ledger). l .used) (played-is new asked good) ∙ computed-used;
-      taken = ap takenIn (played-is new asked good) ∙ computed-taken;
+      answers = codes-is new asked good ∙ computed_codes;
+      story = told_is new (whole 1 []) asked good ∙ computed_story;
+      reads = ap (λ (l : Ledger). read (unclaimed_at l) told) (played_is new asked good) ∙ computed_sheets;
+      used = ap (λ (l : Ledger). l.used) (played_is new asked good) ∙ computed_used;
+      taken = ap taken_in (played_is new asked good) ∙ computed_taken;
     }

@@ -1,46 +1,46 @@
 -- What a node in use becomes, whatever is requested, as long as it lasts: its range stays, its position never falls, an owner and a report stay
 -- for good, a mark stands until the node's children are folded into it, and a COMPLETED node stays so.
-use mathlib.Core.Path.{_≡_, refl, ap, _∙_}
-use mathlib.Core.Logic.{_≢_, inl, inr}
+use mathlib.Core.Path.{◌≡◌, refl, ap, ◌∙◌}
+use mathlib.Core.Logic.{◌≢◌, inl, inr}
 use mathlib.Core.Bool.{Bool, true, false, true≢false}
-use mathlib.Core.List.{List, [], _∷_}
-use Prim.Native.Nat.{ℕ, _+_, _≤_}
+use mathlib.Core.List.{List, [], ◌∷◌}
+use Prim.Native.Nat.{ℕ, ◌+◌, ◌≤◌}
 use native.Mathlib.Omega.{arith}
-use native.Mathlib.Decide.{ℕ-discrete}
+use native.Mathlib.Decide.{ℕ_discrete}
 use lib.IntN.{ℤ, pos, negsuc}
-use Rattle·numbers.specs.Progress.{negative, position}
-use Rattle·numbers.proofs.Laws.{isNat-made}
-use Rattle·rules.specs.declared.Answered.{Answered}
-use Rattle·rules.specs.declared.Node.{Node}
-use Rattle·rules.specs.declared.Ledger.{Ledger}
-use Rattle·rules.specs.declared.Request.{Request}
-use Rattle·laws·specs.specs.Lasting.{Frees, Lasts}
-use Rattle·laws·specs.specs.Listing.{afterAll}
-use Rattle·laws·specs.specs.Reports.{ReportStays, ReportsAreFinal}
-use Rattle·rules.specs.Nodes.{PUSHED, moved, marked, positionOf}
-use Rattle·rules.specs.Requests.{batchEnd, nodeIn, requested}
-use Rattle·rules.specs.States.{completed}
-use Rattle·rules.specs.Table.{InUse, at, put}
-use Rattle·rules.proofs.Effects.{Kept, claim-kept, Effect, rests, stores, claims, splits, closes, effect-of}
-use Rattle·rules.proofs.Expand.{split-slots, stays}
-use Rattle·rules.proofs.Fold as Fold
-use Rattle·rules.proofs.Granted.{in-use}
-use Rattle·rules.proofs.Keeps.{wf-answered, requested-wf, requested-good}
-use Rattle·rules.proofs.Nodes.{at-same, at-other}
-use Rattle·rules.proofs.Record.{WF, rules, in-table}
-use Rattle·rules.proofs.States.{claimed}
-use Rattle·laws·proofs.proofs.Runs.{run-good, stored-used}
+use Rattle.numbers.specs.Progress.{negative, position}
+use Rattle.numbers.proofs.Laws.{is_nat_made}
+use Rattle.rules.specs.declared.Answered.{Answered}
+use Rattle.rules.specs.declared.Node.{Node}
+use Rattle.rules.specs.declared.Ledger.{Ledger}
+use Rattle.rules.specs.declared.Request.{Request}
+use Rattle.laws.specs.Lasting.{Frees, Lasts}
+use Rattle.laws.specs.Listing.{after_all}
+use Rattle.laws.specs.Reports.{ReportStays, ReportsAreFinal}
+use Rattle.rules.specs.Nodes.{PUSHED, moved, marked, position_of}
+use Rattle.rules.specs.Requests.{batch_end, node_in, requested}
+use Rattle.rules.specs.States.{completed}
+use Rattle.rules.specs.Table.{InUse, at, put}
+use Rattle.rules.proofs.Effects.{Kept, claim_kept, Effect, rests, stores, claims, splits, closes, effect_of}
+use Rattle.rules.proofs.Expand.{split_slots, stays}
+use Rattle.rules.proofs.Fold as Fold
+use Rattle.rules.proofs.Granted.{in_use}
+use Rattle.rules.proofs.Keeps.{wf_answered, requested_wf, requested_good}
+use Rattle.rules.proofs.Nodes.{at_same, at_other}
+use Rattle.rules.proofs.Record.{WF, rules, in_table}
+use Rattle.rules.proofs.States.{claimed}
+use Rattle.laws.proofs.Runs.{run_good, stored_used}
 
 -- what became of a marked node x
 pub data Since (x y : Node) : Type 0 where
-  stands : y .progress ≡ x .progress → Since x y
+  stands : y.progress ≡ x.progress → Since x y
   over : completed y ≡ true → Since x y
 
 pub record Onward (x y : Node) : Type 0 where
-  pub start : y .start ≡ x .start
-  pub until : y .until ≡ x .until
-  pub forward : positionOf x ≤ positionOf y
-  pub owner : x .owner ≢ 0 → y .owner ≡ x .owner
+  pub start : y.start ≡ x.start
+  pub until : y.until ≡ x.until
+  pub forward : position_of x ≤ position_of y
+  pub owner : x.owner ≢ 0 → y.owner ≡ x.owner
   pub mark : marked x ≡ true → Since x y
   pub done : completed x ≡ true → completed y ≡ true
   pub report : ReportStays x y
@@ -58,100 +58,100 @@ stay x =
     }
 
 -- a node that is the same
-same-onward : (x y : Node) → y ≡ x → Onward x y
-same-onward x y e = rw e (stay x)
+same_onward : (x y : Node) → y ≡ x → Onward x y
+same_onward x y e = rw e (stay x)
 
-trans-stays : (x y z : Node) → z .stage ≤ PUSHED → ReportStays x y → ReportStays y z → ReportStays x z
-trans-stays x y z most a b =
+trans_stays : (x y z : Node) → z.stage ≤ PUSHED → ReportStays x y → ReportStays y z → ReportStays x z
+trans_stays x y z most a b =
     record {
-      stage = omega (arith, a .stage, b .stage);
-      own = λ s. b .own (omega (arith, a .stage)) ∙ a .own s;
-      pushed = λ s. (b .pushed (a .pushed s .0) .0, b .pushed (a .pushed s .0) .1 ∙ a .pushed s .1);
+      stage = omega (arith, a.stage, b.stage);
+      own = λ s. b.own (omega (arith, a.stage)) ∙ a.own s;
+      pushed = λ s. ((b.pushed (a.pushed s).0).0, (b.pushed (a.pushed s).0).1 ∙ (a.pushed s).1);
     }
 
-since-twice : {x y z : Node} → marked x ≡ true → Since x y → Onward y z → Since x z
-since-twice {x} {y} {z} m (stands e) b = go (b .mark (ap negative e ∙ m))
+since_twice : {x y z : Node} → marked x ≡ true → Since x y → Onward y z → Since x z
+since_twice {x} {y} {z} m (stands e) b = go (b.mark (ap negative e ∙ m))
   where
     go : Since y z → Since x z
     go (stands f) = stands (f ∙ e)
     go (over d) = over d
-since-twice m (over d) b = over (b .done d)
+since_twice m (over d) b = over (b.done d)
 
-onward-twice : {x y z : Node} → z .stage ≤ PUSHED → Onward x y → Onward y z → Onward x z
-onward-twice {x} {y} {z} most a b =
+onward_twice : {x y z : Node} → z.stage ≤ PUSHED → Onward x y → Onward y z → Onward x z
+onward_twice {x} {y} {z} most a b =
     record {
-      start = b .start ∙ a .start;
-      until = b .until ∙ a .until;
-      forward = omega (arith, a .forward, b .forward);
-      owner = λ o. b .owner (rw (a .owner o) o) ∙ a .owner o;
-      mark = λ m. since-twice m (a .mark m) b;
-      done = λ d. b .done (a .done d);
-      report = trans-stays x y z most (a .report) (b .report);
+      start = b.start ∙ a.start;
+      until = b.until ∙ a.until;
+      forward = omega (arith, a.forward, b.forward);
+      owner = λ o. b.owner (rw (a.owner o) o) ∙ a.owner o;
+      mark = λ m. since_twice m (a.mark m) b;
+      done = λ d. b.done (a.done d);
+      report = trans_stays x y z most a.report b.report;
     }
 
 -- ---- one request
 
 -- a position that is the end, and not marked, is COMPLETED
-at-end : (z : ℤ) (u : ℕ) → position z ≡ u → negative z ≡ false → z ≡ pos u
-at-end (pos k) u e f = ap pos e
-at-end (negsuc k) u e f = absurd (true≢false f)
+at_end : (z : ℤ) (u : ℕ) → position z ≡ u → negative z ≡ false → z ≡ pos u
+at_end (pos k) u e f = ap pos e
+at_end (negsuc k) u e f = absurd (true≢false f)
 
-still-done : (x y : Node) → Kept x y → completed x ≡ true → positionOf y ≤ y .until → (marked y ≡ true → positionOf y + 1 ≤ y .until)
+still_done : (x y : Node) → Kept x y → completed x ≡ true → position_of y ≤ y.until → (marked y ≡ true → position_of y + 1 ≤ y.until)
     → completed y ≡ true
-still-done x y h d most left = go (marked y) refl
+still_done x y h d most left = go (marked y) refl
   where
-    end : positionOf y ≡ y .until
+    end : position_of y ≡ y.until
     end =
-        let was : positionOf x ≡ x .until = claimed x d in
-        let more : positionOf x ≤ positionOf y = h .forward (omega arith) in
-        omega (arith, most, h .until)
+        let was : position_of x ≡ x.until = claimed x d in
+        let more : position_of x ≤ position_of y = h.forward (omega arith) in
+        omega (arith, most, h.until)
 
     go : (b : Bool) → marked y ≡ b → completed y ≡ true
     go true m = absurd (omega (arith, end, left m))
-    go false m = rw (at-end (y .progress) (y .until) end m) (isNat-made (y .until))
+    go false m = rw (at_end y.progress y.until end m) (is_nat_made y.until)
 
 module _ (l : Ledger) (w : WF l) (m : ℕ) (y : Node) (u : InUse l m) (h : Kept (at l m) y) (v : WF (put l m y)) where
-  stored-here : Onward (at l m) y
-  stored-here =
-      let good = rw (at-same l m y (u .low) (in-table l w m u)) at (v .node m (stored-used l w m y u h m u)) in
+  stored_here : Onward (at l m) y
+  stored_here =
+      let good = rw (at_same l m y u.low (in_table l w m u)) at (v.node m (stored_used l w m y u h m u)) in
       record {
-        start = h .start;
-        until = h .until;
-        forward = h .forward (w .node m u .alone .high);
-        owner = h .owner;
-        mark = λ k. stands (h .stands k);
-        done = λ d. still-done (at l m) y h d (good .alone .high) (good .alone .some-left);
+        start = h.start;
+        until = h.until;
+        forward = h.forward (w.node m u).alone.high;
+        owner = h.owner;
+        mark = λ k. stands (h.stands k);
+        done = λ d. still_done (at l m) y h d good.alone.high good.alone.some_left;
         report =
-            record { stage = h .stage; own = h .own; pushed = λ s. (omega (arith, h .stage, good .staged .limit), h .joined s) };
+            record { stage = h.stage; own = h.own; pushed = λ s. (omega (arith, h.stage, good.staged.limit), h.joined s) };
       }
 
-  stored-onward : (n : ℕ) → InUse l n → InUse (put l m y) n × Onward (at l n) (at (put l m y) n)
-  stored-onward n p = (stored-used l w m y u h n p, go (ℕ-discrete n m))
+  stored_onward : (n : ℕ) → InUse l n → InUse (put l m y) n × Onward (at l n) (at (put l m y) n)
+  stored_onward n p = (stored_used l w m y u h n p, go (ℕ_discrete n m))
     where
       go : Dec (n ≡ m) → Onward (at l n) (at (put l m y) n)
-      go (yes e) = rw (e, at-same l m y (u .low) (in-table l w m u)) stored-here
-      go (no ne) = same-onward _ _ (at-other l m y (u .low) n (p .low) ne)
+      go (yes e) = rw (e, at_same l m y u.low (in_table l w m u)) stored_here
+      go (no ne) = same_onward _ _ (at_other l m y u.low n p.low ne)
 
-effect-onward : {l : Ledger} {r : Request} {a : Answered} → WF l → WF (a .ledger) → Effect l r a → (n : ℕ) → InUse l n
+effect_onward : {l : Ledger} {r : Request} {a : Answered} → WF l → WF a.ledger → Effect l r a → (n : ℕ) → InUse l n
     → (Frees l r n → ⊥)
     → requested l r ≡ a
-    → InUse (a .ledger) n × Onward (at l n) (at (a .ledger) n)
-effect-onward {l} w v (rests q t) n u lasts is = (u, stay (at l n))
-effect-onward {l} {r} w v (stores y q p h e t) n u lasts is = stored-onward l w (nodeIn r) y p h v n u
-effect-onward {l} {r} w v (claims k q f) n u lasts is =
-    stored-onward l w (nodeIn r) (moved (at l (nodeIn r)) (pos (batchEnd (at l (nodeIn r)) r))) (in-use l r q) (claim-kept (at l (nodeIn r)) r f) v n u
-effect-onward {l} {r} {a} w v (splits k q f) n u lasts is = (split-slots l w m p f .kept n u, go (ℕ-discrete n m))
+    → InUse a.ledger n × Onward (at l n) (at a.ledger n)
+effect_onward {l} w v (rests q t) n u lasts is = (u, stay (at l n))
+effect_onward {l} {r} w v (stores y q p h e t) n u lasts is = stored_onward l w (node_in r) y p h v n u
+effect_onward {l} {r} w v (claims k q f) n u lasts is =
+    stored_onward l w (node_in r) (moved (at l (node_in r)) (pos (batch_end (at l (node_in r)) r))) (in_use l r q) (claim_kept (at l (node_in r)) r f) v n u
+effect_onward {l} {r} {a} w v (splits k q f) n u lasts is = ((split_slots l w m p f).kept n u, go (ℕ_discrete n m))
   where
     m : ℕ
-    m = nodeIn r
+    m = node_in r
 
     p : InUse l m
-    p = in-use l r q
+    p = in_use l r q
 
-    go : Dec (n ≡ m) → Onward (at l n) (at (a .ledger) n)
+    go : Dec (n ≡ m) → Onward (at l n) (at a.ledger n)
     go (yes e) =
         rw
-        (e, split-slots l w m p f .here)
+        (e, (split_slots l w m p f).here)
         (record {
           start = refl;
           until = refl;
@@ -161,57 +161,57 @@ effect-onward {l} {r} {a} w v (splits k q f) n u lasts is = (split-slots l w m p
           done = λ d. d;
           report = record { stage = omega arith; own = λ s. refl; pushed = λ s. (s, refl) };
         })
-    go (no ne) = same-onward _ _ (stays l w m p f n u ne)
-effect-onward {l} {r} {a} w v (closes k q f) n u lasts is =
-    (Fold.still-used l w m p f n u far far′, go (ℕ-discrete n m))
+    go (no ne) = same_onward _ _ (stays l w m p f n u ne)
+effect_onward {l} {r} {a} w v (closes k q f) n u lasts is =
+    (Fold.still_used l w m p f n u far far', go (ℕ_discrete n m))
   where
     m : ℕ
-    m = nodeIn r
+    m = node_in r
 
     p : InUse l m
-    p = in-use l r q
+    p = in_use l r q
 
-    far : n ≢ at l m .left
+    far : n ≢ (at l m).left
     far e = lasts (record { kind = k; granted = rw is; pair = inl (rw is e) })
 
-    far′ : n ≢ at l m .left + 1
-    far′ e = lasts (record { kind = k; granted = rw is; pair = inr (rw is e) })
+    far' : n ≢ (at l m).left + 1
+    far' e = lasts (record { kind = k; granted = rw is; pair = inr (rw is e) })
 
-    go : Dec (n ≡ m) → Onward (at l n) (at (a .ledger) n)
+    go : Dec (n ≡ m) → Onward (at l n) (at a.ledger n)
     go (yes e) =
         rw
-        (e, Fold.here-is l w m p f)
+        (e, Fold.here_is l w m p f)
         (record {
           start = refl;
           until = refl;
-          forward = w .node m p .alone .high;
+          forward = (w.node m p).alone.high;
           owner = λ o. refl;
-          mark = λ z. over (isNat-made (at l m .until));
-          done = λ d. isNat-made (at l m .until);
+          mark = λ z. over (is_nat_made (at l m).until);
+          done = λ d. is_nat_made (at l m).until;
           report = record { stage = omega arith; own = λ s. refl; pushed = λ s. (s, refl) };
         })
-    go (no ne) = same-onward _ _ (Fold.other-is l w m p f n (u .low) ne far far′)
+    go (no ne) = same_onward _ _ (Fold.other_is l w m p f n u.low ne far far')
 
-pub requested-onward : (l : Ledger) (r : Request) → WF l → (n : ℕ) → InUse l n → (Frees l r n → ⊥)
-    → InUse (requested l r .ledger) n × Onward (at l n) (at (requested l r .ledger) n)
-requested-onward l r w n u lasts =
-    rw (requested-wf l r w) (effect-onward w (wf-answered l r w) (effect-of l r w) n u lasts (requested-wf l r w))
+pub requested_onward : (l : Ledger) (r : Request) → WF l → (n : ℕ) → InUse l n → (Frees l r n → ⊥)
+    → InUse (requested l r).ledger n × Onward (at l n) (at (requested l r).ledger n)
+requested_onward l r w n u lasts =
+    rw (requested_wf l r w) (effect_onward w (wf_answered l r w) (effect_of l r w) n u lasts (requested_wf l r w))
 
 -- ---- any requests
 
-pub run-onward : (l : Ledger) (rs : List Request) → WF l → (n : ℕ) → InUse l n → Lasts l n rs
-    → InUse (afterAll l rs) n × Onward (at l n) (at (afterAll l rs) n)
-unfolding afterAll
-run-onward l [] w n u lasts = (u, stay (at l n))
-run-onward l (r ∷ rs) w n u lasts =
-    let k = requested l r .ledger in
-    let good = requested-good l r w in
-    let one = requested-onward l r w n u (lasts .0) in
-    let all = run-onward k rs good n (one .0) (lasts .1) in
-    (all .0, onward-twice (ends k rs good n (all .0)) (one .1) (all .1))
+pub run_onward : (l : Ledger) (rs : List Request) → WF l → (n : ℕ) → InUse l n → Lasts l n rs
+    → InUse (after_all l rs) n × Onward (at l n) (at (after_all l rs) n)
+unfolding after_all
+run_onward l [] w n u lasts = (u, stay (at l n))
+run_onward l (r ∷ rs) w n u lasts =
+    let k = (requested l r).ledger in
+    let good = requested_good l r w in
+    let one = requested_onward l r w n u lasts.0 in
+    let all = run_onward k rs good n one.0 lasts.1 in
+    (all.0, onward_twice (ends k rs good n all.0) one.1 all.1)
   where
-    ends : (k : Ledger) (rs : List Request) → WF k → (n : ℕ) → InUse (afterAll k rs) n → at (afterAll k rs) n .stage ≤ PUSHED
-    ends k rs good n v = run-good k rs good .node n v .staged .limit
+    ends : (k : Ledger) (rs : List Request) → WF k → (n : ℕ) → InUse (after_all k rs) n → (at (after_all k rs) n).stage ≤ PUSHED
+    ends k rs good n v = ((run_good k rs good).node n v).staged.limit
 
-pub reports-are-final : ReportsAreFinal
-reports-are-final l rs n sound u lasts = run-onward l rs (rules l sound) n u lasts .1 .report
+pub reports_are_final : ReportsAreFinal
+reports_are_final l rs n sound u lasts = (run_onward l rs (rules l sound) n u lasts).1.report

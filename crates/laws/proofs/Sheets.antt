@@ -1,30 +1,30 @@
 -- Every sheet exactly once, by the listing, proved.
-use mathlib.Core.Path.{_≡_, refl, _∙_}
+use mathlib.Core.Path.{◌≡◌, refl, ◌∙◌}
 use mathlib.Core.Bool.{true}
 use mathlib.Core.List.{List, [], append-nil}
 use native.Mathlib.Omega.{arith}
-use Rattle·numbers.specs.Fields.{natOf}
-use Rattle·rules.specs.declared.Ledger.{Ledger}
-use Rattle·rules.specs.declared.Opening.{Opening}
-use Rattle·rules.specs.declared.Request.{Request}
-use Rattle·rules.specs.Limits.{opens}
-use Rattle·laws·specs.specs.Listing.{sheets, afterAll, NoFolds, batches, grantedFrom, ListsOnly}
-use Rattle·rules.specs.Opening.{opened, ledgerOf}
-use Rattle·laws·specs.specs.Sheets.{OneListing, EverySheetOnce}
-use Rattle·rules.specs.Table.{at}
-use Rattle·laws·proofs.proofs.Batches.{sheets-none}
-use Rattle·laws·proofs.proofs.Runs.{run-range}
-use Rattle·rules.proofs.Opens.{begun, opened-wf, opened-root}
-use Rattle·laws·proofs.proofs.Whole.{Whole, run-whole, root-lists, one-listing}
+use Rattle.numbers.specs.Fields.{nat_of}
+use Rattle.rules.specs.declared.Ledger.{Ledger}
+use Rattle.rules.specs.declared.Opening.{Opening}
+use Rattle.rules.specs.declared.Request.{Request}
+use Rattle.rules.specs.Limits.{opens}
+use Rattle.laws.specs.Listing.{sheets, after_all, NoFolds, batches, granted_from, ListsOnly}
+use Rattle.rules.specs.Opening.{opened, ledger_of}
+use Rattle.laws.specs.Sheets.{OneListing, EverySheetOnce}
+use Rattle.rules.specs.Table.{at}
+use Rattle.laws.proofs.Batches.{sheets_none}
+use Rattle.laws.proofs.Runs.{run_range}
+use Rattle.rules.proofs.Opens.{begun, opened_wf, opened_root}
+use Rattle.laws.proofs.Whole.{Whole, run_whole, root_lists, one_listing}
 
 -- ---- a new ledger
 
-begun-whole : (o : Opening) → opens o ≡ true → Whole (ledgerOf o) []
-unfolding opened grantedFrom
-begun-whole o e =
+begun_whole : (o : Opening) → opens o ≡ true → Whole (ledger_of o) []
+unfolding opened granted_from
+begun_whole o e =
     record {
-      wf = opened-wf o e;
-      given = λ n u. let f : n ≡ 1 = omega (arith, u .low, u .high) in rw (f, opened-root, sheets-none);
+      wf = opened_wf o e;
+      given = λ n u. let f : n ≡ 1 = omega (arith, u.low, u.high) in rw (f, opened_root, sheets_none);
       none = λ n free. refl;
     }
 
@@ -32,20 +32,20 @@ begun-whole o e =
 
 module _ (o : Opening) (rs : List Request) (none : NoFolds rs) (good : opens o ≡ true) where
   abbrev l : Ledger
-  l = ledgerOf o
+  l = ledger_of o
 
-  after-whole : Whole (afterAll l rs) (batches l rs)
-  after-whole = rw append-nil at (run-whole l [] rs none (begun-whole o good))
+  after_whole : Whole (after_all l rs) (batches l rs)
+  after_whole = rw append-nil at (run_whole l [] rs none (begun_whole o good))
 
-  once : ListsOnly (afterAll l rs) (batches l rs) 1 (sheets (natOf (o .start)) (natOf (o .until)))
+  once : ListsOnly (after_all l rs) (batches l rs) 1 (sheets (nat_of o.start) (nat_of o.until))
   unfolding opened
   once =
-      let w = after-whole .wf in
-      let r = run-range l rs (opened-wf o good) in
-      root-lists (afterAll l rs) (batches l rs) _ _ after-whole (w .root .start ∙ r .start) (w .root .until ∙ r .until)
+      let w = after_whole.wf in
+      let r = run_range l rs (opened_wf o good) in
+      root_lists (after_all l rs) (batches l rs) _ _ after_whole (w.root.start ∙ r.start) (w.root.until ∙ r.until)
 
-pub each-one-listing : OneListing
-each-one-listing l bs n xs ys = one-listing
+pub each_one_listing : OneListing
+each_one_listing l bs n xs ys = one_listing
 
-pub every-sheet-once : EverySheetOnce
-every-sheet-once o rs e none = let b = begun o e in rw (b .ledger) (once o rs none (b .good))
+pub every_sheet_once : EverySheetOnce
+every_sheet_once o rs e none = let b = begun o e in rw b.ledger (once o rs none b.good)

@@ -1,20 +1,17 @@
 -- A worked run with folds: room for 7 nodes is full, so that a mark gets code 14; two folds make room for it, and the split takes a pair that
 -- was used before.
-use Prim.Native.Nat.{ℕ}
-use mathlib.Core.Path.{_≡_}
-use mathlib.Core.List.{List, [], _∷_, _++_}
-use lib.IntN.{pos}
-use Rattle·rules.specs.declared.Ledger.{Ledger}
-use Rattle·rules.specs.declared.Opening.{Opening}
-use Rattle·rules.specs.declared.Request.{Request}
-use Rattle·rules.specs.Asks.{own, advance, mark, expand, look, report, push, fold}
-use Rattle·rules.specs.Joining.{finds}
-use Rattle·rules.specs.Opening.{opening}
-use Rattle·rules.specs.Requests.{requested}
-use Rattle·rules.specs.Table.{takenIn}
-use Rattle·laws·specs.specs.Listed.{batch}
-use Rattle·laws·specs.specs.Listing.{reached}
-use Rattle·laws·specs.specs.Story.{Entry, given, found, Story, whole, parted, closed, storyOf, read, unclaimedAt}
+use Rattle.std.specs.Prelude.{ℕ, ◌≡◌, List, [], ◌∷◌, ◌++◌, pos}
+use Rattle.rules.specs.declared.Ledger.{Ledger}
+use Rattle.rules.specs.declared.Opening.{Opening}
+use Rattle.rules.specs.declared.Request.{Request}
+use Rattle.rules.specs.Asks.{own, advance, mark, expand, look, report, push, fold}
+use Rattle.rules.specs.Joining.{finds}
+use Rattle.rules.specs.Opening.{opening}
+use Rattle.rules.specs.Requests.{requested}
+use Rattle.rules.specs.Table.{taken_in}
+use Rattle.laws.specs.Listed.{batch}
+use Rattle.laws.specs.Listing.{reached}
+use Rattle.laws.specs.Story.{Entry, given, found, Story, whole, parted, closed, story_of, read, unclaimed_at}
 
 abbrev pub lesson : Opening
 lesson = record { start = pos 0; until = pos 8; teams = pos 2; cap = pos 4; nodes = pos 7 }
@@ -70,13 +67,13 @@ asked = full ++ (worked ++ (closing ++ again))
 -- the codes that requests get, one by one
 unfoldable pub codes : Ledger → List Request → List ℕ
 codes l [] = []
-codes l (r ∷ rs) = requested l r .answer .code ∷ codes (requested l r .ledger) rs
+codes l (r ∷ rs) = (requested l r).answer.code ∷ codes (requested l r).ledger rs
 
-abbrev pub batchOf : ℕ → ℕ → ℕ → ℕ → Entry
-batchOf team n a b = given (batch team n a b)
+abbrev pub batch_of : ℕ → ℕ → ℕ → ℕ → Entry
+batch_of team n a b = given (batch team n a b)
 
-abbrev pub reportOf : ℕ → ℕ → ℕ → ℕ → ℕ → Entry
-reportOf team n count first last = found (record { team = team; node = n; result = finds count first last })
+abbrev pub report_of : ℕ → ℕ → ℕ → ℕ → ℕ → Entry
+report_of team n count first last = found (record { team = team; node = n; result = finds count first last })
 
 -- Node 4 was made twice: what was granted of its first making stands under 2, what was granted of its second under 3.
 abbrev pub told : Story
@@ -86,25 +83,25 @@ told =
     []
     (closed
     2
-    (reportOf 1 2 0 0 0 ∷ [])
+    (report_of 1 2 0 0 0 ∷ [])
     (closed
     4
-    (reportOf 1 4 0 0 0 ∷ [])
-    (whole 6 (batchOf 1 6 0 1 ∷ reportOf 1 6 1 5 5 ∷ []))
-    (whole 7 (batchOf 2 7 1 2 ∷ reportOf 2 7 0 0 0 ∷ [])))
-    (whole 5 (batchOf 1 5 2 4 ∷ reportOf 1 5 2 6 7 ∷ [])))
-    (parted 3 [] (whole 4 (batchOf 2 4 4 5 ∷ [])) (whole 5 []))
+    (report_of 1 4 0 0 0 ∷ [])
+    (whole 6 (batch_of 1 6 0 1 ∷ report_of 1 6 1 5 5 ∷ []))
+    (whole 7 (batch_of 2 7 1 2 ∷ report_of 2 7 0 0 0 ∷ [])))
+    (whole 5 (batch_of 1 5 2 4 ∷ report_of 1 5 2 6 7 ∷ [])))
+    (parted 3 [] (whole 4 (batch_of 2 4 4 5 ∷ [])) (whole 5 []))
 
 -- the codes of the four parts
-abbrev pub codesGiven : List ℕ
-codesGiven =
+abbrev pub codes_given : List ℕ
+codes_given =
     (0 ∷ 0 ∷ 0 ∷ 0 ∷ 0 ∷ 0 ∷ 0 ∷ 0 ∷ 0 ∷ 0 ∷ 14 ∷ [])
     ++ ((0 ∷ 0 ∷ 0 ∷ 0 ∷ 0 ∷ 0 ∷ 0 ∷ 0 ∷ 0 ∷ 0 ∷ 0 ∷ 0 ∷ 0 ∷ 0 ∷ 0 ∷ 0 ∷ []) ++ ((40 ∷ 39 ∷ 0 ∷ 38 ∷ 0 ∷ []) ++ (0 ∷ 0 ∷ 0 ∷ 0 ∷ [])))
 
 pub record FoldExample : Type 0 where
-  pub answers : codes (opening lesson .ledger) asked ≡ codesGiven
-  pub story : storyOf lesson asked ≡ told
-  pub reads : read (unclaimedAt (reached lesson asked)) told ≡ 0 ∷ 1 ∷ 2 ∷ 3 ∷ 4 ∷ 5 ∷ 6 ∷ 7 ∷ []
+  pub answers : codes (opening lesson).ledger asked ≡ codes_given
+  pub story : story_of lesson asked ≡ told
+  pub reads : read (unclaimed_at (reached lesson asked)) told ≡ 0 ∷ 1 ∷ 2 ∷ 3 ∷ 4 ∷ 5 ∷ 6 ∷ 7 ∷ []
   -- 7 slots were used, of which 5 are in use
-  pub used : reached lesson asked .used ≡ 7
-  pub taken : takenIn (reached lesson asked) ≡ 5
+  pub used : (reached lesson asked).used ≡ 7
+  pub taken : taken_in (reached lesson asked) ≡ 5

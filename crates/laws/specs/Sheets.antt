@@ -1,14 +1,12 @@
 -- Demand 3, every sheet exactly once, as a statement over the listing, for lists without folds. `proofs/Sheets.antt` proves it. With folds it
 -- is a statement over the story: `Story.antt`.
-use mathlib.Core.Path.{_≡_}
-use mathlib.Core.List.{List}
-use Prim.Native.Nat.{ℕ}
-use Rattle·numbers.specs.Fields.{natOf}
-use Rattle·rules.specs.declared.Ledger.{Ledger}
-use Rattle·rules.specs.declared.Opening.{Opening}
-use Rattle·rules.specs.declared.Request.{Request}
-use Rattle·laws·specs.specs.Listing.{sheets, reached, NoFolds, Batch, batches, Lists, ListsOnly}
-use Rattle·rules.specs.Opening.{opening}
+use Rattle.std.specs.Prelude.{◌≡◌, List, ℕ}
+use Rattle.numbers.specs.Fields.{nat_of}
+use Rattle.rules.specs.declared.Ledger.{Ledger}
+use Rattle.rules.specs.declared.Opening.{Opening}
+use Rattle.rules.specs.declared.Request.{Request}
+use Rattle.laws.specs.Listing.{sheets, reached, NoFolds, Batch, batches, Lists, ListsOnly}
+use Rattle.rules.specs.Opening.{opening}
 
 -- A node has one listing.
 abbrev pub OneListing : Type 0
@@ -19,5 +17,5 @@ OneListing =
 -- ascending.
 abbrev pub EverySheetOnce : Type 0
 EverySheetOnce =
-    (o : Opening) (rs : List Request) → opening o .code ≡ 0 → NoFolds rs
-    → ListsOnly (reached o rs) (batches (opening o .ledger) rs) 1 (sheets (natOf (o .start)) (natOf (o .until)))
+    (o : Opening) (rs : List Request) → (opening o).code ≡ 0 → NoFolds rs
+    → ListsOnly (reached o rs) (batches (opening o).ledger rs) 1 (sheets (nat_of o.start) (nat_of o.until))

@@ -1,84 +1,84 @@
 -- Reading a node of the ledger that an area stands for.
-use mathlib.Core.Path.{_≡_, refl, ap, _∙_}
-use mathlib.Core.List.{List, _++_}
-use Prim.Native.Nat.{ℕ, zero, suc, _+_, _-_, _*_, _≤_, _<_}
+use mathlib.Core.Path.{◌≡◌, refl, ap, ◌∙◌}
+use mathlib.Core.List.{List, ◌++◌}
+use Prim.Native.Nat.{ℕ, zero, suc, ◌+◌, ◌-◌, ◌*◌, ◌≤◌, ◌<◌}
 use native.Mathlib.Omega.{arith}
-use lib.ListN.{length, getD, drop, replicate, length-append, length-replicate, List·getD-append}
-use lib.Seq.{getD-append-add, drop-drop}
-use Rattle·rules.specs.declared.Node.{Node}
-use Rattle·rules.specs.Limits.{maxNodes}
-use Rattle·rules.specs.Nodes.{blank}
-use Rattle·rules.specs.Table.{at}
-use Rattle·rules.specs.WellFormed.{Sized}
-use Rattle·layout·specs.specs.Sizes.{headSize, nodeSize, teamsPlace, roomPlace, usedPlace}
-use Rattle·layout·specs.specs.Numbers.{numberAt}
-use Rattle·layout·specs.specs.Areas.{nodeOf, slotAt, nodesOf, decoded}
-use Rattle·layout·proofs.proofs.Whole.{nodes-length}
+use lib.ListN.{length, get_or, drop, replicate, length-append, length-replicate, get_or-append}
+use lib.Seq.{get_or-append-add, drop-drop}
+use Rattle.rules.specs.declared.Node.{Node}
+use Rattle.rules.specs.Limits.{max_nodes}
+use Rattle.rules.specs.Nodes.{blank}
+use Rattle.rules.specs.Table.{at}
+use Rattle.rules.specs.WellFormed.{Sized}
+use Rattle.layout.specs.Sizes.{head_size, node_size, teams_place, room_place, used_place}
+use Rattle.layout.specs.Numbers.{number_at}
+use Rattle.layout.specs.Areas.{node_of, slot_at, nodes_of, decoded}
+use Rattle.layout.proofs.Whole.{nodes_length}
 
-nodes-at : (k : ℕ) (t : List ℕ) (i : ℕ) → i < k → getD (nodesOf k t) i blank ≡ nodeOf (drop (nodeSize * i) t)
-unfolding nodesOf
-nodes-at zero t i h = absurd (omega arith)
-nodes-at (suc k) t zero h = refl
-nodes-at (suc k) t (suc i) h =
-    let e : nodeSize * suc i ≡ nodeSize + nodeSize * i = omega arith in
-    nodes-at k (drop nodeSize t) i (omega arith) ∙ rw (e, drop-drop (nodeSize * i) nodeSize t)
+nodes_at : (k : ℕ) (t : List ℕ) (i : ℕ) → i < k → get_or (nodes_of k t) i blank ≡ node_of (drop (node_size * i) t)
+unfolding nodes_of
+nodes_at zero t i h = absurd (omega arith)
+nodes_at (suc k) t zero h = refl
+nodes_at (suc k) t (suc i) h =
+    let e : node_size * suc i ≡ node_size + node_size * i = omega arith in
+    nodes_at k (drop node_size t) i (omega arith) ∙ rw (e, drop-drop (node_size * i) node_size t)
 
-blanks : (k i : ℕ) → getD (replicate k blank) i blank ≡ blank
+blanks : (k i : ℕ) → get_or (replicate k blank) i blank ≡ blank
 blanks zero i = refl
 blanks (suc k) zero = refl
 blanks (suc k) (suc i) = blanks k i
 
 module _ (bs : List ℕ) where
   -- the ledger's numbers
-  pub start-is : decoded bs .start ≡ numberAt bs 0
+  pub start_is : (decoded bs).start ≡ number_at bs 0
   unfolding decoded
-  start-is = refl
+  start_is = refl
 
-  pub until-is : decoded bs .until ≡ numberAt bs 4
+  pub until_is : (decoded bs).until ≡ number_at bs 4
   unfolding decoded
-  until-is = refl
+  until_is = refl
 
-  pub teams-is : decoded bs .teams ≡ numberAt bs teamsPlace
+  pub teams_is : (decoded bs).teams ≡ number_at bs teams_place
   unfolding decoded
-  teams-is = refl
+  teams_is = refl
 
-  pub room-is : decoded bs .room ≡ numberAt bs roomPlace
+  pub room_is : (decoded bs).room ≡ number_at bs room_place
   unfolding decoded
-  room-is = refl
+  room_is = refl
 
-  pub used-is : decoded bs .used ≡ numberAt bs usedPlace
+  pub used_is : (decoded bs).used ≡ number_at bs used_place
   unfolding decoded
-  used-is = refl
+  used_is = refl
 
   abbrev room : ℕ
-  room = numberAt bs roomPlace
+  room = number_at bs room_place
 
   -- the slots of its room
   abbrev own : List Node
-  own = nodesOf room (drop headSize bs)
+  own = nodes_of room (drop head_size bs)
 
   -- and those past it
   abbrev rest : List Node
-  rest = replicate (maxNodes - room) blank
+  rest = replicate (max_nodes - room) blank
 
-  pub slots-length : decoded bs .room ≤ maxNodes → Sized (decoded bs)
+  pub slots_length : (decoded bs).room ≤ max_nodes → Sized (decoded bs)
   unfolding decoded
-  slots-length h =
-      rw (length-append own rest, nodes-length room (drop headSize bs), length-replicate (maxNodes - room) blank) (omega arith)
+  slots_length h =
+      rw (length-append own rest, nodes_length room (drop head_size bs), length-replicate (max_nodes - room) blank) (omega arith)
 
-  pub slot-is : (i : ℕ) → i < decoded bs .room → getD (decoded bs .nodes) i blank ≡ slotAt bs i
-  unfolding decoded slotAt
-  slot-is i h =
-      let long : i < length own = omega (arith, nodes-length room (drop headSize bs)) in
-      List·getD-append own rest blank i long
-      ∙ (nodes-at room (drop headSize bs) i h ∙ ap nodeOf (drop-drop (nodeSize * i) headSize bs))
+  pub slot_is : (i : ℕ) → i < (decoded bs).room → get_or (decoded bs).nodes i blank ≡ slot_at bs i
+  unfolding decoded slot_at
+  slot_is i h =
+      let long : i < length own = omega (arith, nodes_length room (drop head_size bs)) in
+      get_or-append own rest blank i long
+      ∙ (nodes_at room (drop head_size bs) i h ∙ ap node_of (drop-drop (node_size * i) head_size bs))
 
-  pub at-is : (n : ℕ) → 1 ≤ n → n ≤ decoded bs .room → at (decoded bs) n ≡ slotAt bs (n - 1)
+  pub at-is : (n : ℕ) → 1 ≤ n → n ≤ (decoded bs).room → at (decoded bs) n ≡ slot_at bs (n - 1)
   unfolding at
-  at-is n low high = slot-is (n - 1) (omega arith)
+  at-is n low high = slot_is (n - 1) (omega arith)
 
-  pub at-past : (n : ℕ) → decoded bs .room < n → at (decoded bs) n ≡ blank
+  pub at_past : (n : ℕ) → (decoded bs).room < n → at (decoded bs) n ≡ blank
   unfolding at decoded
-  at-past n h =
-      let e : n - 1 ≡ length own + (n - 1 - room) = omega (arith, nodes-length room (drop headSize bs)) in
-      rw e (getD-append-add own rest (n - 1 - room) blank ∙ blanks (maxNodes - room) (n - 1 - room))
+  at_past n h =
+      let e : n - 1 ≡ length own + (n - 1 - room) = omega (arith, nodes_length room (drop head_size bs)) in
+      rw e (get_or-append-add own rest (n - 1 - room) blank ∙ blanks (max_nodes - room) (n - 1 - room))

@@ -1,233 +1,233 @@
 -- Bytes and records stand for each other, one to one.
-use mathlib.Core.Path.{_≡_, refl, sym, ap, _∙_}
-use mathlib.Core.List.{List, [], _∷_, _++_, append-assoc}
-use Prim.Native.Nat.{ℕ, zero, suc, _+_, _-_, _*_, _≤_, _<_}
+use mathlib.Core.Path.{◌≡◌, refl, sym, ap, ◌∙◌}
+use mathlib.Core.List.{List, [], ◌∷◌, ◌++◌, append_assoc}
+use Prim.Native.Nat.{ℕ, zero, suc, ◌+◌, ◌-◌, ◌*◌, ◌≤◌, ◌<◌}
 use native.Mathlib.Omega.{arith}
 use lib.IntN.{ℤ}
-use lib.ListN.{length, getD, take, drop, replicate, length-append, length-drop, length-replicate, getD-replicate, take-append-drop}
-use lib.Seq.{getD-drop, getD-take, length-take-le, take-add, take-at, ext-getD}
-use Rattle·rules.specs.declared.Finds.{Finds}
-use Rattle·rules.specs.declared.Node.{Node}
-use Rattle·rules.specs.declared.Ledger.{Ledger}
-use Rattle·rules.specs.Joining.{finds}
-use Rattle·rules.specs.Limits.{maxNodes}
-use Rattle·rules.specs.Nodes.{makeNode, blank}
-use Rattle·rules.proofs.Nodes.{at-next}
-use Rattle·rules.proofs.Record.{WF, rules}
-use Rattle·layout·specs.specs.Sizes.{headSize, nodeSize, areaSize, ownPlace, joinedPlace}
-use Rattle·layout·specs.specs.Numbers.{Bytes, words, numberAt, four, fours, signedOf, bitsOf}
-use Rattle·layout·specs.specs.Areas.{findsAt, nodeOf, nodesOf, decoded, nodeFields, nodeBytes, nodesBytes, headBytes, encoded}
-use Rattle·layout·specs.specs.Demands.{Area, inUse, LedgerBack, BytesBack, OneToOne, EncodedIsArea}
-use Rattle·layout·proofs.proofs.Words.{bytes-drop, number-small, bits-signed, signed-bits, bits-small}
-use Rattle·layout·proofs.proofs.Fours.{fours-length, fours-bytes, fours-read, fours-back}
-use Rattle·layout·proofs.proofs.Fits.{Small, Fitting, slot-small}
+use lib.ListN.{length, get_or, take, drop, replicate, length-append, length-drop, length-replicate, get_or-replicate, take-append-drop}
+use lib.Seq.{get_or-drop, get_or-take, length-take-le, take-add, take_at, ext_get_or}
+use Rattle.rules.specs.declared.Finds.{Finds}
+use Rattle.rules.specs.declared.Node.{Node}
+use Rattle.rules.specs.declared.Ledger.{Ledger}
+use Rattle.rules.specs.Joining.{finds}
+use Rattle.rules.specs.Limits.{max_nodes}
+use Rattle.rules.specs.Nodes.{make_node, blank}
+use Rattle.rules.proofs.Nodes.{at_next}
+use Rattle.rules.proofs.Record.{WF, rules}
+use Rattle.layout.specs.Sizes.{head_size, node_size, area_size, own_place, joined_place}
+use Rattle.layout.specs.Numbers.{Bytes, words, number_at, four, fours, signed_of, bits_of}
+use Rattle.layout.specs.Areas.{finds_at, node_of, nodes_of, decoded, node_fields, node_bytes, nodes_bytes, head_bytes, encoded}
+use Rattle.layout.specs.Demands.{Area, in_use, LedgerBack, BytesBack, OneToOne, EncodedIsArea}
+use Rattle.layout.proofs.Words.{bytes_drop, number_small, bits_signed, signed_bits, bits_small}
+use Rattle.layout.proofs.Fours.{fours-length, fours_bytes, fours-read, fours_back}
+use Rattle.layout.proofs.Fits.{Small, Fitting, slot_small}
 
 -- ---- from bytes to bytes
 
-node-back : (t : List ℕ) → Bytes t → nodeSize ≤ length t → nodeBytes (nodeOf t) ≡ take nodeSize t
-unfolding nodeBytes nodeFields nodeOf findsAt
-node-back t b h = rw (bits-signed (numberAt t 8) (number-small t 8 b)) (fours-back 12 0 t b (omega arith))
+node_back : (t : List ℕ) → Bytes t → node_size ≤ length t → node_bytes (node_of t) ≡ take node_size t
+unfolding node_bytes node_fields node_of finds_at
+node_back t b h = rw (bits_signed (number_at t 8) (number_small t 8 b)) (fours_back 12 0 t b (omega arith))
 
-nodes-back : (k : ℕ) (t : List ℕ) → Bytes t → nodeSize * k ≤ length t → nodesBytes (nodesOf k t) ≡ take (nodeSize * k) t
-unfolding nodesBytes nodesOf
-nodes-back zero t b h = refl
-nodes-back (suc k) t b h =
-    let e : nodeSize * suc k ≡ nodeSize + nodeSize * k = omega arith in
-    let rest = nodes-back k (drop nodeSize t) (bytes-drop t nodeSize b) (rw (length-drop nodeSize t) (omega arith)) in
-    rw (e, node-back t b (omega arith), rest) (sym (take-add nodeSize (nodeSize * k) t))
+nodes_back : (k : ℕ) (t : List ℕ) → Bytes t → node_size * k ≤ length t → nodes_bytes (nodes_of k t) ≡ take (node_size * k) t
+unfolding nodes_bytes nodes_of
+nodes_back zero t b h = refl
+nodes_back (suc k) t b h =
+    let e : node_size * suc k ≡ node_size + node_size * k = omega arith in
+    let rest = nodes_back k (drop node_size t) (bytes_drop t node_size b) (rw (length-drop node_size t) (omega arith)) in
+    rw (e, node_back t b (omega arith), rest) (sym (take-add node_size (node_size * k) t))
 
-pub nodes-length : (k : ℕ) (t : List ℕ) → length (nodesOf k t) ≡ k
-unfolding nodesOf
-nodes-length zero t = refl
-nodes-length (suc k) t = ap suc (nodes-length k (drop nodeSize t))
+pub nodes_length : (k : ℕ) (t : List ℕ) → length (nodes_of k t) ≡ k
+unfolding nodes_of
+nodes_length zero t = refl
+nodes_length (suc k) t = ap suc (nodes_length k (drop node_size t))
 
-pub bytesBack : BytesBack
-unfolding encoded decoded headBytes
-bytesBack bs a =
-    let room = numberAt bs 12 in
-    let nodes = nodesOf room (drop headSize bs) in
-    let rest : List Node = replicate (maxNodes - room) blank in
-    let b = a .bytes in
-    let inside = nodes-back room (drop headSize bs) (bytes-drop bs headSize b) (rw (length-drop headSize bs) (omega (arith, a .long))) in
+pub bytes_back : BytesBack
+unfolding encoded decoded head_bytes
+bytes_back bs a =
+    let room = number_at bs 12 in
+    let nodes = nodes_of room (drop head_size bs) in
+    let rest : List Node = replicate (max_nodes - room) blank in
+    let b = a.bytes in
+    let inside = nodes_back room (drop head_size bs) (bytes_drop bs head_size b) (rw (length-drop head_size bs) (omega (arith, a.long))) in
     rw
-    (take-at nodes rest room (nodes-length room (drop headSize bs)), fours-back 5 0 bs b (omega (arith, a .long)), inside)
-    (sym (take-add headSize (nodeSize * room) bs))
+    (take_at nodes rest room (nodes_length room (drop head_size bs)), fours_back 5 0 bs b (omega (arith, a.long)), inside)
+    (sym (take-add head_size (node_size * room) bs))
 
-pub oneToOne : OneToOne
-oneToOne cs bs a b e = sym (bytesBack cs a) ∙ (ap encoded e ∙ bytesBack bs b)
+pub one_to_one : OneToOne
+one_to_one cs bs a b e = sym (bytes_back cs a) ∙ (ap encoded e ∙ bytes_back bs b)
 
 -- ---- from records to records
 
 -- a record by its parts
-finds-made : (f : Finds) (c a b : ℕ) → c ≡ f .count → a ≡ f .first → b ≡ f .last → finds c a b ≡ f
-finds-made f c a b p q r = rw (p, q, r)
+finds_made : (f : Finds) (c a b : ℕ) → c ≡ f.count → a ≡ f.first → b ≡ f.last → finds c a b ≡ f
+finds_made f c a b p q r = rw (p, q, r)
 
-node-made : (x : Node) (a b : ℕ) (p : ℤ) (o c : ℕ) (f g : Finds) (s : ℕ) → a ≡ x .start → b ≡ x .until → p ≡ x .progress → o ≡ x .owner
-    → c ≡ x .left
-    → f ≡ x .own
-    → g ≡ x .joined
-    → s ≡ x .stage
-    → makeNode a b p o c f g s ≡ x
-node-made x a b p o c f g s ea eb ep eo ec ef eg es = rw (ea, eb, ep, eo, ec, ef, eg, es)
+node_made : (x : Node) (a b : ℕ) (p : ℤ) (o c : ℕ) (f g : Finds) (s : ℕ) → a ≡ x.start → b ≡ x.until → p ≡ x.progress → o ≡ x.owner
+    → c ≡ x.left
+    → f ≡ x.own
+    → g ≡ x.joined
+    → s ≡ x.stage
+    → make_node a b p o c f g s ≡ x
+node_made x a b p o c f g s ea eb ep eo ec ef eg es = rw (ea, eb, ep, eo, ec, ef, eg, es)
 
 module _ (x : Node) (t : List ℕ) (s : Small x) where
   abbrev these : List ℕ
-  these = nodeBytes x ++ t
+  these = node_bytes x ++ t
 
   -- number i of a node's twelve
-  field : (i : ℕ) → i < 12 → getD (nodeFields x) i 0 < words → numberAt these (4 * i) ≡ getD (nodeFields x) i 0
-  unfolding nodeBytes nodeFields
-  field i h k = fours-read (nodeFields x) t i h k
+  field : (i : ℕ) → i < 12 → get_or (node_fields x) i 0 < words → number_at these (4 * i) ≡ get_or (node_fields x) i 0
+  unfolding node_bytes node_fields
+  field i h k = fours-read (node_fields x) t i h k
 
-  own-read : findsAt these ownPlace ≡ x .own
-  unfolding findsAt nodeFields
-  own-read =
-      let f = s .own in
-      finds-made (x .own) _ _ _
-      (field 5 (omega arith) (f .count))
-      (field 6 (omega arith) (f .first))
-      (field 7 (omega arith) (f .last))
+  own_read : finds_at these own_place ≡ x.own
+  unfolding finds_at node_fields
+  own_read =
+      let f = s.own in
+      finds_made x.own _ _ _
+      (field 5 (omega arith) f.count)
+      (field 6 (omega arith) f.first)
+      (field 7 (omega arith) f.last)
 
-  joined-read : findsAt these joinedPlace ≡ x .joined
-  unfolding findsAt nodeFields
-  joined-read =
-      let f = s .joined in
-      finds-made (x .joined) _ _ _
-      (field 8 (omega arith) (f .count))
-      (field 9 (omega arith) (f .first))
-      (field 10 (omega arith) (f .last))
+  joined_read : finds_at these joined_place ≡ x.joined
+  unfolding finds_at node_fields
+  joined_read =
+      let f = s.joined in
+      finds_made x.joined _ _ _
+      (field 8 (omega arith) f.count)
+      (field 9 (omega arith) f.first)
+      (field 10 (omega arith) f.last)
 
-  pub node-read : nodeOf these ≡ x
-  unfolding nodeOf nodeFields
-  node-read =
-      node-made x _ _ _ _ _ _ _ _
-      (field 0 (omega arith) (s .start))
-      (field 1 (omega arith) (s .until))
-      (ap signedOf (field 2 (omega arith) (bits-small (x .progress) (s .progress))) ∙ signed-bits (x .progress) (s .progress))
-      (field 3 (omega arith) (s .owner))
-      (field 4 (omega arith) (s .left))
-      own-read
-      joined-read
-      (field 11 (omega arith) (s .stage))
+  pub node_read : node_of these ≡ x
+  unfolding node_of node_fields
+  node_read =
+      node_made x _ _ _ _ _ _ _ _
+      (field 0 (omega arith) s.start)
+      (field 1 (omega arith) s.until)
+      (ap signed_of (field 2 (omega arith) (bits_small x.progress s.progress)) ∙ signed_bits x.progress s.progress)
+      (field 3 (omega arith) s.owner)
+      (field 4 (omega arith) s.left)
+      own_read
+      joined_read
+      (field 11 (omega arith) s.stage)
 
-node-drop : (x : Node) (t : List ℕ) → drop nodeSize (nodeBytes x ++ t) ≡ t
-unfolding nodeBytes nodeFields fours four
-node-drop x t = refl
+node_drop : (x : Node) (t : List ℕ) → drop node_size (node_bytes x ++ t) ≡ t
+unfolding node_bytes node_fields fours four
+node_drop x t = refl
 
-nodes-read : (xs : List Node) (t : List ℕ) → ((i : ℕ) → i < length xs → Small (getD xs i blank))
-    → nodesOf (length xs) (nodesBytes xs ++ t) ≡ xs
-unfolding nodesOf nodesBytes
-nodes-read [] t s = refl
-nodes-read (x ∷ xs) t s =
+nodes_read : (xs : List Node) (t : List ℕ) → ((i : ℕ) → i < length xs → Small (get_or xs i blank))
+    → nodes_of (length xs) (nodes_bytes xs ++ t) ≡ xs
+unfolding nodes_of nodes_bytes
+nodes_read [] t s = refl
+nodes_read (x ∷ xs) t s =
     rw
-    (append-assoc (nodeBytes x) (nodesBytes xs) t, node-read x (nodesBytes xs ++ t) (s 0 (omega arith)), node-drop x (nodesBytes xs ++ t))
-    (ap (x ∷_) (nodes-read xs t (λ i h. s (suc i) (omega arith))))
+    (append_assoc (node_bytes x) (nodes_bytes xs) t, node_read x (nodes_bytes xs ++ t) (s 0 (omega arith)), node_drop x (nodes_bytes xs ++ t))
+    (ap (x ∷◌) (nodes_read xs t (λ i h. s (suc i) (omega arith))))
 
 -- past its room a well-formed ledger has unused slots alone
-rest-blank : (l : Ledger) → WF l → drop (l .room) (l .nodes) ≡ replicate (maxNodes - l .room) blank
-rest-blank l w =
-    ext-getD blank (drop (l .room) (l .nodes)) (replicate (maxNodes - l .room) blank)
-    (rw (length-drop (l .room) (l .nodes), length-replicate (maxNodes - l .room) blank, w .slots))
+rest_blank : (l : Ledger) → WF l → drop l.room l.nodes ≡ replicate (max_nodes - l.room) blank
+rest_blank l w =
+    ext_get_or blank (drop l.room l.nodes) (replicate (max_nodes - l.room) blank)
+    (rw (length-drop l.room l.nodes, length-replicate (max_nodes - l.room) blank, w.slots))
     (λ i h.
-    let k : i < maxNodes - l .room = omega (arith, h, length-drop (l .room) (l .nodes), w .slots) in
+    let k : i < max_nodes - l.room = omega (arith, h, length-drop l.room l.nodes, w.slots) in
     rw
-    (getD-drop (l .room) (l .nodes) i blank, getD-replicate (maxNodes - l .room) i blank blank k, ← at-next l (l .room + i), w .blank (l .room + i + 1) (omega (arith, w .used-room))))
+    (get_or-drop l.room l.nodes i blank, get_or-replicate (max_nodes - l.room) i blank blank k, ← at_next l (l.room + i), w.blank (l.room + i + 1) (omega (arith, w.used_room))))
 
 -- a ledger by its parts
-ledger-made : (l : Ledger) (bs : List ℕ) → numberAt bs 0 ≡ l .start → numberAt bs 4 ≡ l .until → numberAt bs 8 ≡ l .teams
-    → numberAt bs 12 ≡ l .room
-    → numberAt bs 16 ≡ l .used
-    → nodesOf (l .room) (drop headSize bs) ≡ take (l .room) (l .nodes)
-    → drop (l .room) (l .nodes) ≡ replicate (maxNodes - l .room) blank
+ledger_made : (l : Ledger) (bs : List ℕ) → number_at bs 0 ≡ l.start → number_at bs 4 ≡ l.until → number_at bs 8 ≡ l.teams
+    → number_at bs 12 ≡ l.room
+    → number_at bs 16 ≡ l.used
+    → nodes_of l.room (drop head_size bs) ≡ take l.room l.nodes
+    → drop l.room l.nodes ≡ replicate (max_nodes - l.room) blank
     → decoded bs ≡ l
 unfolding decoded
-ledger-made l bs a b c d e f g =
+ledger_made l bs a b c d e f g =
     rw
     (a, b, c, d, e, f, ← g)
     (ap
-    (λ (ns : List Node). record { start = l .start; until = l .until; teams = l .teams; room = l .room; used = l .used; nodes = ns })
-    (take-append-drop (l .room) (l .nodes)))
+    (λ (ns : List Node). record { start = l.start; until = l.until; teams = l.teams; room = l.room; used = l.used; nodes = ns })
+    (take-append-drop l.room l.nodes))
 
 module _ (l : Ledger) (tail : List ℕ) (w : WF l) where
   abbrev slots : List Node
-  slots = take (l .room) (l .nodes)
+  slots = take l.room l.nodes
 
   abbrev after : List ℕ
-  after = nodesBytes slots ++ tail
+  after = nodes_bytes slots ++ tail
 
-  slots-long : length slots ≡ l .room
-  slots-long = length-take-le (l .room) (l .nodes) (omega (arith, w .limits .room-high, w .slots))
+  slots_long : length slots ≡ l.room
+  slots_long = length-take-le l.room l.nodes (omega (arith, w.limits.room_high, w.slots))
 
-  whole : encoded l ++ tail ≡ headBytes l ++ after
+  whole : encoded l ++ tail ≡ head_bytes l ++ after
   unfolding encoded
-  whole = append-assoc (headBytes l) (nodesBytes slots) tail
+  whole = append_assoc (head_bytes l) (nodes_bytes slots) tail
 
   -- number i of the ledger's five
   abbrev heads : List ℕ
-  heads = l .start ∷ l .until ∷ l .teams ∷ l .room ∷ l .used ∷ []
+  heads = l.start ∷ l.until ∷ l.teams ∷ l.room ∷ l.used ∷ []
 
-  number : (i : ℕ) → i < 5 → getD heads i 0 < words → numberAt (encoded l ++ tail) (4 * i) ≡ getD heads i 0
-  unfolding headBytes
+  number : (i : ℕ) → i < 5 → get_or heads i 0 < words → number_at (encoded l ++ tail) (4 * i) ≡ get_or heads i 0
+  unfolding head_bytes
   number i h k = rw whole (fours-read heads after i h k)
 
-  past-head : drop headSize (encoded l ++ tail) ≡ after
-  unfolding headBytes fours four
-  past-head = rw whole refl
+  past_head : drop head_size (encoded l ++ tail) ≡ after
+  unfolding head_bytes fours four
+  past_head = rw whole refl
 
-  each : (i : ℕ) → i < length slots → Small (getD slots i blank)
-  each i h = rw (getD-take (l .room) (l .nodes) i blank (omega (arith, slots-long))) (slot-small l w i)
+  each : (i : ℕ) → i < length slots → Small (get_or slots i blank)
+  each i h = rw (get_or-take l.room l.nodes i blank (omega (arith, slots_long))) (slot_small l w i)
 
-  pub ledger-back : decoded (encoded l ++ tail) ≡ l
-  ledger-back =
-      let k = w .limits in
-      let used : l .used ≤ maxNodes = omega (arith, w .used-room, k .room-high) in
-      let read : nodesOf (l .room) after ≡ slots = ap (λ (n : ℕ). nodesOf n after) (sym slots-long) ∙ nodes-read slots tail each in
-      ledger-made l (encoded l ++ tail)
-      (number 0 (omega arith) (omega (arith, k .ordered, k .until-limit)))
-      (number 1 (omega arith) (omega (arith, k .until-limit)))
-      (number 2 (omega arith) (omega (arith, k .teams-high)))
-      (number 3 (omega arith) (omega (arith, k .room-high)))
+  pub ledger_back_lem : decoded (encoded l ++ tail) ≡ l
+  ledger_back_lem =
+      let k = w.limits in
+      let used : l.used ≤ max_nodes = omega (arith, w.used_room, k.room_high) in
+      let read : nodes_of l.room after ≡ slots = ap (λ (n : ℕ). nodes_of n after) (sym slots_long) ∙ nodes_read slots tail each in
+      ledger_made l (encoded l ++ tail)
+      (number 0 (omega arith) (omega (arith, k.ordered, k.until_limit)))
+      (number 1 (omega arith) (omega (arith, k.until_limit)))
+      (number 2 (omega arith) (omega (arith, k.teams_high)))
+      (number 3 (omega arith) (omega (arith, k.room_high)))
       (number 4 (omega arith) (omega arith))
-      (rw past-head read)
-      (rest-blank l w)
+      (rw past_head read)
+      (rest_blank l w)
 
-pub ledgerBack : LedgerBack
-ledgerBack l tail s = ledger-back l tail (rules l s)
+pub ledger_back : LedgerBack
+ledger_back l tail s = ledger_back_lem l tail (rules l s)
 
 -- ---- a ledger's bytes are an area
 
-pub node-length : (x : Node) → length (nodeBytes x) ≡ nodeSize
-unfolding nodeBytes nodeFields
-node-length x = fours-length (nodeFields x)
+pub node_length : (x : Node) → length (node_bytes x) ≡ node_size
+unfolding node_bytes node_fields
+node_length x = fours-length (node_fields x)
 
-nodes-bytes-length : (xs : List Node) → length (nodesBytes xs) ≡ nodeSize * length xs
-unfolding nodesBytes
-nodes-bytes-length [] = refl
-nodes-bytes-length (x ∷ xs) = length-append (nodeBytes x) (nodesBytes xs) ∙ omega (arith, node-length x, nodes-bytes-length xs)
+nodes_bytes-length : (xs : List Node) → length (nodes_bytes xs) ≡ node_size * length xs
+unfolding nodes_bytes
+nodes_bytes-length [] = refl
+nodes_bytes-length (x ∷ xs) = length-append (node_bytes x) (nodes_bytes xs) ∙ omega (arith, node_length x, nodes_bytes-length xs)
 
-nodes-are-bytes : (xs : List Node) (t : List ℕ) → Bytes t → Bytes (nodesBytes xs ++ t)
-unfolding nodesBytes nodeBytes
-nodes-are-bytes [] t b = b
-nodes-are-bytes (x ∷ xs) t b =
-    λ i. rw (append-assoc (nodeBytes x) (nodesBytes xs) t) (fours-bytes (nodeFields x) (nodesBytes xs ++ t) (nodes-are-bytes xs t b) i)
+nodes_are_bytes : (xs : List Node) (t : List ℕ) → Bytes t → Bytes (nodes_bytes xs ++ t)
+unfolding nodes_bytes node_bytes
+nodes_are_bytes [] t b = b
+nodes_are_bytes (x ∷ xs) t b =
+    λ i. rw (append_assoc (node_bytes x) (nodes_bytes xs) t) (fours_bytes (node_fields x) (nodes_bytes xs ++ t) (nodes_are_bytes xs t b) i)
 
-pub head-length : (l : Ledger) → length (headBytes l) ≡ headSize
-unfolding headBytes
-head-length l = fours-length _
+pub head_length : (l : Ledger) → length (head_bytes l) ≡ head_size
+unfolding head_bytes
+head_length l = fours-length _
 
-pub encoded-length : (l : Ledger) → l .room ≤ length (l .nodes) → length (encoded l) ≡ areaSize (l .room)
+pub encoded-length : (l : Ledger) → l.room ≤ length l.nodes → length (encoded l) ≡ area_size l.room
 unfolding encoded
 encoded-length l h =
-    length-append (headBytes l) (nodesBytes (take (l .room) (l .nodes)))
-    ∙ omega (arith, head-length l, nodes-bytes-length (take (l .room) (l .nodes)), length-take-le (l .room) (l .nodes) h)
+    length-append (head_bytes l) (nodes_bytes (take l.room l.nodes))
+    ∙ omega (arith, head_length l, nodes_bytes-length (take l.room l.nodes), length-take-le l.room l.nodes h)
 
-pub encodedIsArea : EncodedIsArea
-unfolding encoded headBytes
-encodedIsArea l tail b s =
+pub encoded_is_area : EncodedIsArea
+unfolding encoded head_bytes
+encoded_is_area l tail b s =
     let w = rules l s in
-    let slots = take (l .room) (l .nodes) in
-    let size = encoded-length l (omega (arith, w .limits .room-high, w .slots)) in
+    let slots = take l.room l.nodes in
+    let size = encoded-length l (omega (arith, w.limits.room_high, w.slots)) in
     record {
-      bytes = λ i. rw (append-assoc (headBytes l) (nodesBytes slots) tail) (fours-bytes _ (nodesBytes slots ++ tail) (nodes-are-bytes slots tail b) i);
-      long = rw (ledgerBack l tail s, length-append (encoded l) tail) (omega arith);
+      bytes = λ i. rw (append_assoc (head_bytes l) (nodes_bytes slots) tail) (fours_bytes _ (nodes_bytes slots ++ tail) (nodes_are_bytes slots tail b) i);
+      long = rw (ledger_back l tail s, length-append (encoded l) tail) (omega arith);
     }

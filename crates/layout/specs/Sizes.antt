@@ -1,53 +1,53 @@
 -- Sizes and places of the layout, in bytes: nothing else says what they are.
-use Prim.Native.Nat.{ℕ, _+_, _*_}
+use Rattle.std.specs.Prelude.{ℕ, ◌+◌, ◌*◌}
 
 -- "five ledger numbers (start, until, teams, nodes, used)"
-abbrev pub headSize : ℕ
-headSize = 20
+abbrev pub head_size : ℕ
+head_size = 20
 
 -- "then 48 bytes a node"
-abbrev pub nodeSize : ℕ
-nodeSize = 48
+abbrev pub node_size : ℕ
+node_size = 48
 
 -- "its answer's six numbers go to a lent area of 24 bytes"
-abbrev pub answerSize : ℕ
-answerSize = 24
+abbrev pub answer_size : ℕ
+answer_size = 24
 
 -- "20 + 48 × nodes"
-abbrev pub areaSize : ℕ → ℕ
-areaSize nodes = headSize + nodeSize * nodes
+abbrev pub area_size : ℕ → ℕ
+area_size nodes = head_size + node_size * nodes
 
 -- slot i begins where the slots before it end
-abbrev pub slotPlace : ℕ → ℕ
-slotPlace i = areaSize i
+abbrev pub slot_place : ℕ → ℕ
+slot_place i = area_size i
 
 -- ---- where the ledger's numbers stand
 
-abbrev pub teamsPlace : ℕ
-teamsPlace = 8
+abbrev pub teams_place : ℕ
+teams_place = 8
 
-abbrev pub roomPlace : ℕ
-roomPlace = 12
+abbrev pub room_place : ℕ
+room_place = 12
 
-abbrev pub usedPlace : ℕ
-usedPlace = 16
+abbrev pub used_place : ℕ
+used_place = 16
 
 -- ---- where a node's numbers stand in its 48 bytes: "start, until, progress, owner, left, own result, joined result, stage"
 
-abbrev pub progressPlace : ℕ
-progressPlace = 8
+abbrev pub progress_place : ℕ
+progress_place = 8
 
-abbrev pub ownerPlace : ℕ
-ownerPlace = 12
+abbrev pub owner_place : ℕ
+owner_place = 12
 
-abbrev pub leftPlace : ℕ
-leftPlace = 16
+abbrev pub left_place : ℕ
+left_place = 16
 
-abbrev pub ownPlace : ℕ
-ownPlace = 20
+abbrev pub own_place : ℕ
+own_place = 20
 
-abbrev pub joinedPlace : ℕ
-joinedPlace = 32
+abbrev pub joined_place : ℕ
+joined_place = 32
 
-abbrev pub stagePlace : ℕ
-stagePlace = 44
+abbrev pub stage_place : ℕ
+stage_place = 44

@@ -1,13 +1,11 @@
 // Numbers, results and nodes in an area of bytes: read one at a time, and written one at a time.
-ghost use mathlib.Core.Path.{_≡_};
-ghost use Prim.Native.Nat.{_+_, _≤_, _<_};
-ghost use lib.ListN.{length};
-ghost use Rattle·rules.specs.Nodes.{PREPARED, PUSHED};
-ghost use Rattle·layout·specs.specs.Sizes.{areaSize, slotPlace, ownPlace, joinedPlace, stagePlace, ownerPlace, progressPlace, leftPlace};
-ghost use Rattle·layout·specs.specs.Numbers.{numberAt, four, fours, signedOf, bitsOf, written};
-ghost use Rattle·layout·specs.specs.Areas.{findsAt, slotAt, nodeBytes, resultFields};
-use rules::Finds;
-use rules::Node;
+ghost use Rattle.std.specs.Prelude.{◌≡◌, ◌+◌, ◌≤◌, ◌<◌, length};
+ghost use Rattle.rules.specs.Nodes.{PREPARED, PUSHED};
+ghost use Rattle.layout.specs.Sizes.{area_size, slot_place, own_place, joined_place, stage_place, owner_place, progress_place, left_place};
+ghost use Rattle.layout.specs.Numbers.{number_at, four, fours, signed_of, bits_of, written};
+ghost use Rattle.layout.specs.Areas.{finds_at, slot_at, node_bytes, result_fields};
+
+use rules::{Finds, Node};
 
 // Bytes of the ledger's five numbers, of a node and of an answer.
 pub const HEAD: usize = 20;
@@ -37,15 +35,15 @@ const STAGE: usize = 44;
 const ONES: u32 = 4294967295;
 
 fn wide(b: u8) -> u32
-    ensures { λ r. ⌜ (r ≡ b) × (b < 256) ⌝ }
+    ensures { (result ≡ b) × (b < 256) }
 {
     b as u32
 }
 
 // The number in the four bytes from a place on, the least byte first. The compiler makes one load of it.
 pub fn number_at(bytes: &[u8], at: usize) -> u32
-    requires { ⌜ at + 4 ≤ length (now bytes) ⌝ }
-    ensures { λ r. ⌜ r ≡ numberAt (now (bytes .entry)) at ⌝ }
+    requires { at + 4 ≤ length bytes.now }
+    ensures { result ≡ number_at bytes.now at }
 {
     let a = wide(bytes[at]);
     let b = wide(bytes[at + 1]);
@@ -56,7 +54,7 @@ pub fn number_at(bytes: &[u8], at: usize) -> u32
 
 // Two's complement, read.
 fn signed_of(n: u32) -> i32
-    ensures { λ r. ⌜ r ≡ signedOf n ⌝ }
+    ensures { result ≡ signed_of n }
 {
     if n < 2147483648 {
         n as i32
@@ -67,7 +65,7 @@ fn signed_of(n: u32) -> i32
 
 // Two's complement, written.
 fn bits_of(p: i32) -> u32
-    ensures { λ r. ⌜ r ≡ bitsOf p ⌝ }
+    ensures { result ≡ bits_of p }
 {
     if p < 0 {
         ONES - numbers::position_of(p)
@@ -77,8 +75,8 @@ fn bits_of(p: i32) -> u32
 }
 
 fn finds_at(bytes: &[u8], at: usize) -> Finds
-    requires { ⌜ at + 12 ≤ length (now bytes) ⌝ }
-    ensures { λ r. ⌜ r ≡ findsAt (now (bytes .entry)) at ⌝ }
+    requires { at + 12 ≤ length bytes.now }
+    ensures { result ≡ finds_at bytes.now at }
 {
     let count = number_at(bytes, at);
     let first = number_at(bytes, at + 4);
@@ -92,8 +90,8 @@ fn finds_at(bytes: &[u8], at: usize) -> Finds
 
 // The node in a slot of the area.
 pub fn slot_in(bytes: &[u8], i: usize) -> Node
-    requires { ⌜ areaSize (i + 1) ≤ length (now bytes) ⌝ }
-    ensures { λ r. ⌜ r ≡ slotAt (now (bytes .entry)) i ⌝ }
+    requires { area_size (i + 1) ≤ length bytes.now }
+    ensures { result ≡ slot_at bytes.now i }
 {
     let at = HEAD + NODE * i;
     let start = number_at(bytes, at);
@@ -119,8 +117,8 @@ pub fn slot_in(bytes: &[u8], i: usize) -> Node
 
 // Writes a number into the four bytes from a place on.
 pub fn put_number(bytes: &mut [u8], at: usize, n: u32)
-    requires { ⌜ at + 4 ≤ length (now bytes) ⌝ }
-    ensures { λ _. ⌜ now (bytes .exit) ≡ written (now (bytes .entry)) at (four n) ⌝ }
+    requires { at + 4 ≤ length bytes.old }
+    ensures { bytes.new ≡ written bytes.old at (four n) }
 {
     bytes[at] = (n % 256) as u8;
     bytes[at + 1] = (n / 256 % 256) as u8;
@@ -129,8 +127,8 @@ pub fn put_number(bytes: &mut [u8], at: usize, n: u32)
 }
 
 fn put_finds(bytes: &mut [u8], at: usize, f: Finds)
-    requires { ⌜ at + 12 ≤ length (now bytes) ⌝ }
-    ensures { λ _. ⌜ now (bytes .exit) ≡ written (now (bytes .entry)) at (fours (resultFields f)) ⌝ }
+    requires { at + 12 ≤ length bytes.old }
+    ensures { bytes.new ≡ written bytes.old at (fours (result_fields f)) }
 {
     put_number(bytes, at, f.count);
     put_number(bytes, at + 4, f.first);
@@ -139,8 +137,8 @@ fn put_finds(bytes: &mut [u8], at: usize, f: Finds)
 
 // Writes a whole node into a slot of the area.
 pub fn put_slot(bytes: &mut [u8], i: usize, x: Node)
-    requires { ⌜ areaSize (i + 1) ≤ length (now bytes) ⌝ }
-    ensures { λ _. ⌜ now (bytes .exit) ≡ written (now (bytes .entry)) (slotPlace i) (nodeBytes x) ⌝ }
+    requires { area_size (i + 1) ≤ length bytes.old }
+    ensures { bytes.new ≡ written bytes.old (slot_place i) (node_bytes x) }
 {
     let at = HEAD + NODE * i;
     let last = at + STAGE;
@@ -159,31 +157,31 @@ pub fn put_slot(bytes: &mut [u8], i: usize, x: Node)
 
 // The rest write only the numbers of a slot that a change moves.
 pub fn put_owner(bytes: &mut [u8], i: usize, owner: u32)
-    requires { ⌜ areaSize (i + 1) ≤ length (now bytes) ⌝ }
-    ensures { λ _. ⌜ now (bytes .exit) ≡ written (now (bytes .entry)) (slotPlace i + ownerPlace) (four owner) ⌝ }
+    requires { area_size (i + 1) ≤ length bytes.old }
+    ensures { bytes.new ≡ written bytes.old (slot_place i + owner_place) (four owner) }
 {
     put_number(bytes, HEAD + NODE * i + OWNER, owner);
 }
 
 pub fn put_progress(bytes: &mut [u8], i: usize, progress: i32)
-    requires { ⌜ areaSize (i + 1) ≤ length (now bytes) ⌝ }
-    ensures { λ _. ⌜ now (bytes .exit) ≡ written (now (bytes .entry)) (slotPlace i + progressPlace) (four (bitsOf progress)) ⌝ }
+    requires { area_size (i + 1) ≤ length bytes.old }
+    ensures { bytes.new ≡ written bytes.old (slot_place i + progress_place) (four (bits_of progress)) }
 {
     let bits = bits_of(progress);
     put_number(bytes, HEAD + NODE * i + PROGRESS, bits);
 }
 
 pub fn put_left(bytes: &mut [u8], i: usize, left: u32)
-    requires { ⌜ areaSize (i + 1) ≤ length (now bytes) ⌝ }
-    ensures { λ _. ⌜ now (bytes .exit) ≡ written (now (bytes .entry)) (slotPlace i + leftPlace) (four left) ⌝ }
+    requires { area_size (i + 1) ≤ length bytes.old }
+    ensures { bytes.new ≡ written bytes.old (slot_place i + left_place) (four left) }
 {
     put_number(bytes, HEAD + NODE * i + LEFT, left);
 }
 
 // The own result, and the stage of a node that is prepared.
 pub fn put_own(bytes: &mut [u8], i: usize, f: Finds)
-    requires { ⌜ areaSize (i + 1) ≤ length (now bytes) ⌝ }
-    ensures { λ _. ⌜ now (bytes .exit) ≡ written (written (now (bytes .entry)) (slotPlace i + ownPlace) (fours (resultFields f))) (slotPlace i + stagePlace) (four PREPARED) ⌝ }
+    requires { area_size (i + 1) ≤ length bytes.old }
+    ensures { bytes.new ≡ written (written bytes.old (slot_place i + own_place) (fours (result_fields f))) (slot_place i + stage_place) (four PREPARED) }
 {
     let at = HEAD + NODE * i;
     put_finds(bytes, at + OWN, f);
@@ -192,8 +190,8 @@ pub fn put_own(bytes: &mut [u8], i: usize, f: Finds)
 
 // The joined result, and the stage of a node that is pushed.
 pub fn put_joined(bytes: &mut [u8], i: usize, f: Finds)
-    requires { ⌜ areaSize (i + 1) ≤ length (now bytes) ⌝ }
-    ensures { λ _. ⌜ now (bytes .exit) ≡ written (written (now (bytes .entry)) (slotPlace i + joinedPlace) (fours (resultFields f))) (slotPlace i + stagePlace) (four PUSHED) ⌝ }
+    requires { area_size (i + 1) ≤ length bytes.old }
+    ensures { bytes.new ≡ written (written bytes.old (slot_place i + joined_place) (fours (result_fields f))) (slot_place i + stage_place) (four PUSHED) }
 {
     let at = HEAD + NODE * i;
     put_finds(bytes, at + JOINED, f);

@@ -1,58 +1,58 @@
 -- A request stores into slots of the table alone, its node's and those of the pair that every STOLEN node has, and within the limits.
-use mathlib.Core.Path.{_≡_}
-use Prim.Native.Nat.{ℕ, _≤_}
+use mathlib.Core.Path.{◌≡◌}
+use Prim.Native.Nat.{ℕ, ◌≤◌}
 use native.Mathlib.Omega.{arith}
-use Rattle·rules.specs.declared.Ledger.{Ledger}
-use Rattle·rules.specs.declared.Outcome.{Outcome}
-use Rattle·rules.specs.declared.Request.{Request}
-use Rattle·rules.specs.declared.Change.{Change}
-use Rattle·rules.specs.Limits.{maxUntil}
-use Rattle·rules.specs.Nodes.{positionOf, middle}
-use Rattle·rules.specs.Requests.{decided, view, nodeIn}
-use Rattle·rules.specs.Table.{InUse, at}
-use Rattle·rules.proofs.Changed.{Changes, keeps, owns, advances, marks, splits, reports, pushes, folds, changes}
-use Rattle·rules.proofs.FindsFit.{not-over}
-use Rattle·rules.proofs.Fold.{left-in, right-in}
-use Rattle·rules.proofs.Range.{within-range}
-use Rattle·rules.proofs.Spare.{spare, pair-fits}
-use Rattle·rules.proofs.Record.{WF, used-high}
-use Rattle·ledger·specs.specs.Slots.{IsSlot, Stores}
+use Rattle.rules.specs.declared.Ledger.{Ledger}
+use Rattle.rules.specs.declared.Outcome.{Outcome}
+use Rattle.rules.specs.declared.Request.{Request}
+use Rattle.rules.specs.declared.Change.{Change}
+use Rattle.rules.specs.Limits.{max_until}
+use Rattle.rules.specs.Nodes.{position_of, middle}
+use Rattle.rules.specs.Requests.{decided, view, node_in}
+use Rattle.rules.specs.Table.{InUse, at}
+use Rattle.rules.proofs.Changed.{Changes, keeps, owns, advances, marks, splits, reports, pushes, folds, changes}
+use Rattle.rules.proofs.FindsFit.{not_over}
+use Rattle.rules.proofs.Fold.{left_in, right_in}
+use Rattle.rules.proofs.Range.{within_range}
+use Rattle.rules.proofs.Spare.{spare, pair_fits}
+use Rattle.rules.proofs.Record.{WF, used_high}
+use Rattle.ledger.specs.Slots.{IsSlot, Stores}
 
 module _ (l : Ledger) (w : WF l) (n : ℕ) where
-  pub in-slot : InUse l n → IsSlot n
-  in-slot u = (u .low, omega (arith, u .high, used-high l w))
+  pub in_slot : InUse l n → IsSlot n
+  in_slot u = (u.low, omega (arith, u.high, used_high l w))
 
-  until-high : InUse l n → at l n .until ≤ maxUntil
-  until-high u = omega (arith, within-range l w n u .high, w .limits .until-limit)
+  until_high : InUse l n → (at l n).until ≤ max_until
+  until_high u = omega (arith, (within_range l w n u).high, w.limits.until_limit)
 
-  position-high : InUse l n → positionOf (at l n) ≤ maxUntil
-  position-high u = omega (arith, w .node n u .alone .high, until-high u)
+  position_high : InUse l n → position_of (at l n) ≤ max_until
+  position_high u = omega (arith, (w.node n u).alone.high, until_high u)
 
-  middle-high : InUse l n → middle (at l n) ≤ maxUntil
+  middle_high : InUse l n → middle (at l n) ≤ max_until
   unfolding middle
-  middle-high u = omega (arith, position-high u, until-high u)
+  middle_high u = omega (arith, position_high u, until_high u)
 
-  pub in-limits : {c : Change} → Changes l n c → Stores l n c
-  in-limits keeps = tt
-  in-limits (owns u) = in-slot u
-  in-limits (advances u plain inside) = (in-slot u, omega (arith, until-high u))
-  in-limits (marks u plain is) = (in-slot u, omega (arith, position-high u))
-  in-limits (splits u s) =
-      let low = spare l w .some in
-      let high = pair-fits l w n u s in
-      let most = w .slots in
-      (in-slot u, (omega arith, omega arith), (omega arith, omega arith), middle-high u)
-  in-limits (reports u) = in-slot u
-  in-limits (pushes u k) = (in-slot u, omega (arith, not-over _ _ _ (k .fits)))
-  in-limits (folds u k) =
-      let a = left-in l w n u k in
-      let b = right-in l w n u k in
-      let high = used-high l w in
-      (in-slot u, (a .low, omega (arith, a .high)), (b .low, omega (arith, b .high)), until-high u)
+  pub in_limits : {c : Change} → Changes l n c → Stores l n c
+  in_limits keeps = tt
+  in_limits (owns u) = in_slot u
+  in_limits (advances u plain inside) = (in_slot u, omega (arith, until_high u))
+  in_limits (marks u plain is) = (in_slot u, omega (arith, position_high u))
+  in_limits (splits u s) =
+      let low = (spare l w).some in
+      let high = pair_fits l w n u s in
+      let most = w.slots in
+      (in_slot u, (omega arith, omega arith), (omega arith, omega arith), middle_high u)
+  in_limits (reports u) = in_slot u
+  in_limits (pushes u k) = (in_slot u, omega (arith, not_over _ _ _ k.fits))
+  in_limits (folds u k) =
+      let a = left_in l w n u k in
+      let b = right_in l w n u k in
+      let high = used_high l w in
+      (in_slot u, (a.low, omega (arith, a.high)), (b.low, omega (arith, b.high)), until_high u)
 
-pub request-stores : (l : Ledger) → WF l → (r : Request) → Stores l (nodeIn r) (decided (view l (nodeIn r)) r .change)
-request-stores l w r = in-limits l w (nodeIn r) (changes l r)
+pub request_stores : (l : Ledger) → WF l → (r : Request) → Stores l (node_in r) (decided (view l (node_in r)) r).change
+request_stores l w r = in_limits l w (node_in r) (changes l r)
 
 -- the same of an outcome that was decided, at a number that was read
-pub decided-stores : (l : Ledger) → WF l → (r : Request) {n : ℕ} {o : Outcome} → nodeIn r ≡ n → o ≡ decided (view l (nodeIn r)) r → Stores l n (o .change)
-decided-stores l w r en eo = rw (eo, ← en) (request-stores l w r)
+pub decided_stores : (l : Ledger) → WF l → (r : Request) {n : ℕ} {o : Outcome} → node_in r ≡ n → o ≡ decided (view l (node_in r)) r → Stores l n o.change
+decided_stores l w r en eo = rw (eo, ← en) (request_stores l w r)

@@ -1,21 +1,17 @@
 // The ledger: opening, the requests and the unclaimed count, each exactly as the definitions of `rules` say.
-ghost use mathlib.Core.Path.{_≡_};
-ghost use Rattle·rules.specs.Opening.{opening};
-ghost use Rattle·rules.specs.Requests.{requested};
-ghost use Rattle·rules.specs.Count.{counted};
-use rules::Answered;
-use rules::Ledger;
-use rules::Opened;
-use rules::Opening;
-use rules::Request;
-use rules::Unclaimed;
+ghost use Rattle.std.specs.Prelude.{◌≡◌};
+ghost use Rattle.rules.specs.Opening.{opening};
+ghost use Rattle.rules.specs.Requests.{requested};
+ghost use Rattle.rules.specs.Count.{counted};
+
+use rules::{Answered, Ledger, Opened, Opening, Request, Unclaimed};
 
 mod opens;
 pub mod table;
 
 // Opens a ledger, or refuses with 20 and an all-zero ledger.
 pub fn open(o: Opening) -> Opened
-    ensures { λ r. ⌜ r ≡ opening o ⌝ }
+    ensures { result ≡ opening o }
 {
     if o.is_good() {
         let l = opens::opened_by(o);
@@ -31,7 +27,7 @@ pub fn open(o: Opening) -> Opened
 
 // One request: its answer, and the ledger after it. A refusal changes nothing.
 pub fn request(l: Ledger, r: Request) -> Answered
-    ensures { λ x. ⌜ x ≡ requested l r ⌝ }
+    ensures { result ≡ requested l r }
 {
     if forms::well_formed(l) {
         let n = numbers::natural(r.node);
@@ -55,7 +51,7 @@ pub fn request(l: Ledger, r: Request) -> Answered
 
 // The unclaimed count; a ledger that is not well formed gets code 1 instead.
 pub fn count(l: Ledger) -> Unclaimed
-    ensures { λ r. ⌜ r ≡ counted l ⌝ }
+    ensures { result ≡ counted l }
 {
     if forms::well_formed(l) {
         let sum = table::unclaimed_in(l);

@@ -1,22 +1,19 @@
 // The ledger of an opening, and the all-zero ledger of a refused one.
-ghost use mathlib.Core.Path.{_≡_};
-ghost use mathlib.Core.Bool.{true};
-ghost use lib.ListN.{replicate};
-ghost use Rattle·rules.specs.Limits.{maxNodes, opens};
-ghost use Rattle·rules.specs.Nodes.{blank};
-ghost use Rattle·rules.specs.Opening.{ledgerOf, closed};
-use rules::Ledger;
-use rules::Node;
-use rules::Opening;
+ghost use Rattle.std.specs.Prelude.{◌≡◌, true, replicate};
+ghost use Rattle.rules.specs.Limits.{max_nodes, opens};
+ghost use Rattle.rules.specs.Nodes.{blank};
+ghost use Rattle.rules.specs.Opening.{ledger_of, closed};
+
+use rules::{Ledger, Node, Opening};
 
 fn blank_table() -> [Node; Opening::NODES]
-    ensures { λ r. ⌜ r ≡ replicate maxNodes blank ⌝ }
+    ensures { result ≡ replicate max_nodes blank }
 {
     [nodes::blank_node(); Opening::NODES]
 }
 
 pub(crate) fn closed_ledger() -> Ledger
-    ensures { λ r. ⌜ r ≡ closed ⌝ }
+    ensures { result ≡ closed }
 {
     let nodes = blank_table();
     Ledger {
@@ -30,8 +27,8 @@ pub(crate) fn closed_ledger() -> Ledger
 }
 
 pub(crate) fn opened_by(o: Opening) -> Ledger
-    requires { ⌜ opens o ≡ true ⌝ }
-    ensures { λ r. ⌜ r ≡ ledgerOf o ⌝ }
+    requires { opens o ≡ true }
+    ensures { result ≡ ledger_of o }
 {
     let start = numbers::natural(o.start);
     let until = numbers::natural(o.until);

@@ -1,26 +1,18 @@
 // The table of nodes. A table that stands somewhere else, as in a run, is read by `slot_for`, `node_for` and `view_by`; the others take a ledger
 // by value: reading and storing a node, the unclaimed count, the pair that a split takes, the view of a request, and the ledger after a change.
-ghost use mathlib.Core.Path.{_≡_};
-ghost use mathlib.Core.Bool.{cond};
-ghost use Prim.Native.Nat.{_+_, _≤_, max};
-ghost use lib.Dec.{eqb};
-ghost use lib.ListN.{getD};
-ghost use Rattle·rules.specs.Asks.{EXPAND};
-ghost use Rattle·rules.specs.Limits.{maxNodes};
-ghost use Rattle·rules.specs.Nodes.{blank, parted, leftPart};
-ghost use Rattle·rules.specs.Table.{at, put, nextPair, grown};
-ghost use Rattle·rules.specs.Requests.{view, changed};
-ghost use Rattle·rules.specs.Count.{unclaimed};
-ghost use Rattle·nodes.specs.Makers.{heldRight, heldPushed, heldFolded};
-ghost use Rattle·requests.specs.Unseen.{pairSeen};
-ghost use Rattle·ledger·specs.specs.Slots.{IsSlot, Stores};
-ghost use Rattle·ledger·specs.specs.Table.{slotFor, nodeFor, viewBy};
-use rules::Change;
-use rules::Ledger;
-use rules::Node;
-use rules::Opening;
-use rules::Request;
-use rules::View;
+ghost use Rattle.std.specs.Prelude.{◌≡◌, cond, ◌+◌, ◌≤◌, max, eqb, get_or};
+ghost use Rattle.rules.specs.Asks.{EXPAND};
+ghost use Rattle.rules.specs.Limits.{max_nodes};
+ghost use Rattle.rules.specs.Nodes.{blank, parted, left_part};
+ghost use Rattle.rules.specs.Table.{at, put, next_pair, grown};
+ghost use Rattle.rules.specs.Requests.{view, changed};
+ghost use Rattle.rules.specs.Count.{unclaimed};
+ghost use Rattle.nodes.specs.Makers.{held_right, held_pushed, held_folded};
+ghost use Rattle.requests.specs.Unseen.{pair_seen};
+ghost use Rattle.ledger.specs.Slots.{IsSlot, Stores};
+ghost use Rattle.ledger.specs.Table.{slot_for, node_for, view_by};
+
+use rules::{Change, Ledger, Node, Opening, Request, View};
 
 // The slots of the table, as a number of nodes, and the last of them.
 const SLOTS: u32 = Opening::NODES as u32;
@@ -29,14 +21,14 @@ const LAST: u32 = SLOTS - 1;
 
 // A slot of the table, whatever the number.
 pub fn slot_for(n: u32) -> usize
-    ensures { λ r. ⌜ r ≡ slotFor n ⌝ }
+    ensures { result ≡ slot_for n }
 {
     numbers::lesser(numbers::less_by(n, 1), LAST) as usize
 }
 
 // Node n, where x stands in that slot.
 pub fn node_for(n: u32, x: Node) -> Node
-    ensures { λ r. ⌜ r ≡ nodeFor n x ⌝ }
+    ensures { result ≡ node_for n x }
 {
     if n <= SLOTS { x } else { nodes::blank_node() }
 }
@@ -51,7 +43,7 @@ pub fn view_by(
     pair: u32,
     x: Node,
 ) -> View
-    ensures { λ r. ⌜ r ≡ viewBy teams room used taken stolen pair x ⌝ }
+    ensures { result ≡ view_by teams room used taken stolen pair x }
 {
     let none = nodes::blank_node();
     View {
@@ -68,7 +60,7 @@ pub fn view_by(
 }
 
 fn node_in(l: Ledger, slot: usize) -> Node
-    ensures { λ x. ⌜ x ≡ getD (l .nodes) slot blank ⌝ }
+    ensures { result ≡ get_or l.nodes slot blank }
 {
     if slot < Opening::NODES {
         l.nodes[slot]
@@ -78,15 +70,15 @@ fn node_in(l: Ledger, slot: usize) -> Node
 }
 
 fn node_at(l: Ledger, n: u32) -> Node
-    ensures { λ x. ⌜ x ≡ at l n ⌝ }
+    ensures { result ≡ at l n }
 {
     node_in(l, numbers::less_by(n, 1) as usize)
 }
 
 // A request that is granted stores into slots of the table, so none is tested here.
 fn with_node(l: Ledger, n: u32, x: Node) -> Ledger
-    requires { ⌜ IsSlot n ⌝ }
-    ensures { λ m. ⌜ m ≡ put l n x ⌝ }
+    requires { IsSlot n }
+    ensures { result ≡ put l n x }
 {
     let slot = (n - 1) as usize;
     let mut m = l;
@@ -95,14 +87,14 @@ fn with_node(l: Ledger, n: u32, x: Node) -> Ledger
 }
 
 fn larger(a: u32, b: u32) -> u32
-    ensures { λ r. ⌜ r ≡ max a b ⌝ }
+    ensures { result ≡ max a b }
 {
     if a < b { b } else { a }
 }
 
 fn with_pair_used(l: Ledger, pair: u32) -> Ledger
-    requires { ⌜ IsSlot pair ⌝ }
-    ensures { λ m. ⌜ m ≡ grown l pair ⌝ }
+    requires { IsSlot pair }
+    ensures { result ≡ grown l pair }
 {
     let mut m = l;
     m.used = larger(l.used, pair + 1);
@@ -110,7 +102,7 @@ fn with_pair_used(l: Ledger, pair: u32) -> Ledger
 }
 
 pub(crate) fn unclaimed_in(l: Ledger) -> u64
-    ensures { λ k. ⌜ k ≡ unclaimed l ⌝ }
+    ensures { result ≡ unclaimed l }
 {
     let mut k: u64 = 0;
     let mut i: usize = 0;
@@ -124,15 +116,15 @@ pub(crate) fn unclaimed_in(l: Ledger) -> u64
 
 // Node n stands in slot n - 1, so the slot after the left child's has the left child's number.
 fn right_of(l: Ledger, x: Node) -> Node
-    ensures { λ y. ⌜ y ≡ at l (x .left + 1) ⌝ }
+    ensures { result ≡ at l (x.left + 1) }
 {
     node_in(l, x.left as usize)
 }
 
 // The lowest free pair, otherwise the next two slots: from the highest pair down, so that the lowest stays.
 fn next_pair(l: Ledger) -> u32
-    requires { ⌜ l .used ≤ maxNodes ⌝ }
-    ensures { λ r. ⌜ r ≡ nextPair l ⌝ }
+    requires { l.used ≤ max_nodes }
+    ensures { result ≡ next_pair l }
 {
     let half = l.used / 2;
     let mut best = 2 + 2 * half;
@@ -149,8 +141,8 @@ fn next_pair(l: Ledger) -> u32
 
 // Only an expand takes a pair, so that no other request searches for one.
 fn pair_for(l: Ledger, kind: u32) -> u32
-    requires { ⌜ l .used ≤ maxNodes ⌝ }
-    ensures { λ r. ⌜ r ≡ cond (eqb kind EXPAND) (nextPair l) 0 ⌝ }
+    requires { l.used ≤ max_nodes }
+    ensures { result ≡ cond (eqb kind EXPAND) (next_pair l) 0 }
 {
     if kind == Request::EXPAND {
         next_pair(l)
@@ -161,8 +153,8 @@ fn pair_for(l: Ledger, kind: u32) -> u32
 
 // All that a request of a kind looks at.
 pub(crate) fn view_of(l: Ledger, n: u32, kind: u32) -> View
-    requires { ⌜ l .used ≤ maxNodes ⌝ }
-    ensures { λ v. ⌜ v ≡ pairSeen kind (view l n) ⌝ }
+    requires { l.used ≤ max_nodes }
+    ensures { result ≡ pair_seen kind (view l n) }
 {
     let x = node_at(l, n);
     let left = node_at(l, x.left);
@@ -183,8 +175,8 @@ pub(crate) fn view_of(l: Ledger, n: u32, kind: u32) -> View
 }
 
 fn split_at(l: Ledger, n: u32, x: Node, pair: u32) -> Ledger
-    requires { ⌜ IsSlot n × IsSlot pair × IsSlot (pair + 1) ⌝ }
-    ensures { λ m. ⌜ m ≡ grown (put (put (put l n (parted x pair)) pair (leftPart x)) (pair + 1) (heldRight x)) pair ⌝ }
+    requires { IsSlot n × IsSlot pair × IsSlot (pair + 1) }
+    ensures { result ≡ grown (put (put (put l n (parted x pair)) pair (left_part x)) (pair + 1) (held_right x)) pair }
 {
     let one = with_node(l, n, nodes::parted_at(x, pair));
     let two = with_node(one, pair, nodes::left_part(x));
@@ -193,8 +185,8 @@ fn split_at(l: Ledger, n: u32, x: Node, pair: u32) -> Ledger
 }
 
 fn push_at(l: Ledger, n: u32, x: Node) -> Ledger
-    requires { ⌜ IsSlot n ⌝ }
-    ensures { λ m. ⌜ m ≡ put l n (heldPushed x (at l (x .left)) (at l (x .left + 1))) ⌝ }
+    requires { IsSlot n }
+    ensures { result ≡ put l n (held_pushed x (at l x.left) (at l (x.left + 1))) }
 {
     let left = node_at(l, x.left);
     let right = right_of(l, x);
@@ -203,8 +195,8 @@ fn push_at(l: Ledger, n: u32, x: Node) -> Ledger
 
 // The node is COMPLETED, and its pair all 0.
 fn fold_at(l: Ledger, n: u32, x: Node) -> Ledger
-    requires { ⌜ IsSlot n × IsSlot (x .left) × IsSlot (x .left + 1) ⌝ }
-    ensures { λ m. ⌜ m ≡ put (put (put l n (heldFolded x)) (x .left) blank) (x .left + 1) blank ⌝ }
+    requires { IsSlot n × IsSlot x.left × IsSlot (x.left + 1) }
+    ensures { result ≡ put (put (put l n (held_folded x)) x.left blank) (x.left + 1) blank }
 {
     let one = with_node(l, n, nodes::folded_up(x));
     let two = with_node(one, x.left, nodes::blank_node());
@@ -212,8 +204,8 @@ fn fold_at(l: Ledger, n: u32, x: Node) -> Ledger
 }
 
 pub(crate) fn changed_by(l: Ledger, n: u32, c: Change) -> Ledger
-    requires { ⌜ Stores l n c ⌝ }
-    ensures { λ m. ⌜ m ≡ changed l n c ⌝ }
+    requires { Stores l n c }
+    ensures { result ≡ changed l n c }
 {
     let x = node_at(l, n);
     match c {

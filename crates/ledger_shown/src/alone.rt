@@ -1,9 +1,7 @@
 // What stands in no ledger: the table of moves, and what one node decides by itself.
 use crate::print;
 use crate::read::Numbers;
-use rules::Change;
-use rules::Node;
-use rules::Request;
+use rules::{Change, Node, Request};
 
 // The states to which a request of a kind may lead from a state, as the sum of 2 to the power of each.
 pub(crate) fn moves(v: Numbers) {

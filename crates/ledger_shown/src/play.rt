@@ -1,13 +1,7 @@
 // What the words do to the ledger. An answer or a code is shown as it comes back; the ledger itself is shown when a line has been played.
-use crate::print;
-use crate::read;
 use crate::read::Numbers;
-use crate::show;
-use rules::Finds;
-use rules::Ledger;
-use rules::Node;
-use rules::Opening;
-use rules::Request;
+use crate::{print, read, show};
+use rules::{Finds, Ledger, Node, Opening, Request};
 
 // The ledger that is all 0, which a refused opening leaves.
 pub(crate) fn closed() -> Ledger {

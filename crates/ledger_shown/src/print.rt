@@ -1,9 +1,6 @@
 // Writes words and numbers, a space before every number, and the fields of each type.
 use libc::STDOUT_FILENO;
-use rules::Answer;
-use rules::Finds;
-use rules::Ledger;
-use rules::Node;
+use rules::{Answer, Finds, Ledger, Node};
 
 // The words that are printed, as numbers whose digits to the base 256 are the bytes, the first byte last. A call with a number costs the
 // proof less than one with bytes.

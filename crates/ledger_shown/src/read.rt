@@ -36,6 +36,7 @@ const SIZES: u64 = 4294967296;
 const VALUES: u64 = 100000000000;
 
 // The numbers of a line, where they are not negative: the first is a.
+#[derive(Drop)]
 pub(crate) struct Numbers {
     pub(crate) a: u32,
     pub(crate) b: u32,
@@ -53,6 +54,7 @@ pub(crate) struct Numbers {
 }
 
 // The bytes since the last space: as a word, and as a number.
+#[derive(Drop)]
 struct Token {
     letters: u64,
     size: u64,
@@ -62,6 +64,7 @@ struct Token {
 }
 
 // What is read so far. Each number stands in both, with its sign among the first eight, and without.
+#[derive(Drop)]
 pub(crate) struct Line {
     pub(crate) asked: Request,
     pub(crate) given: Numbers,

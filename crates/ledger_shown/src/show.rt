@@ -1,9 +1,6 @@
 // The ledger after a line: the nodes that are other than they were, its own numbers, and whether it is the same.
 use crate::print;
-use rules::Finds;
-use rules::Ledger;
-use rules::Node;
-use rules::Opening;
+use rules::{Finds, Ledger, Node, Opening};
 
 fn same_finds(a: Finds, b: Finds) -> bool {
     (a.count == b.count) & (a.first == b.first) & (a.last == b.last)

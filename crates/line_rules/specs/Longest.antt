@@ -1,43 +1,41 @@
 -- The numbers that `sheets` prints: how large each can be, and how long its lines are.
-use Prim.Native.Nat.{ℕ, _≤_}
-use mathlib.Core.List.{List, [], _∷_}
-use lib.IntN.{ℤ, pos}
-use Rattle·numbers.specs.Fields.{natOf}
-use Rattle·rules.specs.Limits.{maxUntil, maxTeams, maxCap, maxNodes, maxProgram}
-use Rattle·line_rules·specs.specs.Line.{Line, openLine, openWithLine, batchLine, splitLine, leftLine, refusedLine}
+use Rattle.std.specs.Prelude.{ℕ, ◌≤◌, List, [], ◌∷◌, ℤ, pos}
+use Rattle.numbers.specs.Fields.{nat_of}
+use Rattle.rules.specs.Limits.{max_until, max_teams, max_cap, max_nodes, max_program}
+use Rattle.line_rules.specs.Line.{Line, open_line, open_with_line, batch_line, split_line, left_line, refused_line}
 
 -- the longest that `sheets` prints "has 40 bytes with its line end"; the open line with its program, by W6, "up to 42 bytes"
-abbrev pub maxLine : ℕ
-maxLine = 42
+abbrev pub max_line : ℕ
+max_line = 42
 
 -- the last code of the table
-abbrev pub maxCode : ℕ
-maxCode = 28
+abbrev pub max_code : ℕ
+max_code = 28
 
 pub record Limit : Type 0 where
   pub field : ℤ
   pub high : ℕ
 
-infix 5 _upTo_
-abbrev pub _upTo_ : ℤ → ℕ → Limit
-z upTo n = record { field = z; high = n }
+infix 5 ◌upTo◌
+abbrev pub ◌upTo◌ : ℤ → ℕ → Limit
+z up_to n = record { field = z; high = n }
 
 abbrev pub limits : Line → List Limit
-limits (openLine start until teams cap nodes) =
-    (start upTo maxUntil) ∷ (until upTo maxUntil) ∷ (teams upTo maxTeams) ∷ (cap upTo maxCap) ∷ (nodes upTo maxNodes) ∷ []
-limits (openWithLine start until teams cap nodes program) =
-    (start upTo maxUntil) ∷ (until upTo maxUntil) ∷ (teams upTo maxTeams) ∷ (cap upTo maxCap) ∷ (nodes upTo maxNodes) ∷ (program upTo maxProgram) ∷ []
-limits (batchLine team node from to) =
-    (team upTo maxTeams) ∷ (node upTo maxNodes) ∷ (from upTo maxUntil) ∷ (to upTo maxUntil) ∷ []
-limits (splitLine node left middle) = (node upTo maxNodes) ∷ (left upTo maxNodes) ∷ (middle upTo maxUntil) ∷ []
-limits (leftLine count stopped) = (count upTo maxUntil) ∷ (stopped upTo maxTeams) ∷ []
-limits (refusedLine code line) = (code upTo maxCode) ∷ (line upTo maxUntil) ∷ []
+limits (open_line start until teams cap nodes) =
+    (start up_to max_until) ∷ (until up_to max_until) ∷ (teams up_to max_teams) ∷ (cap up_to max_cap) ∷ (nodes up_to max_nodes) ∷ []
+limits (open_with_line start until teams cap nodes program) =
+    (start up_to max_until) ∷ (until up_to max_until) ∷ (teams up_to max_teams) ∷ (cap up_to max_cap) ∷ (nodes up_to max_nodes) ∷ (program up_to max_program) ∷ []
+limits (batch_line team node from to) =
+    (team up_to max_teams) ∷ (node up_to max_nodes) ∷ (from up_to max_until) ∷ (to up_to max_until) ∷ []
+limits (split_line node left middle) = (node up_to max_nodes) ∷ (left up_to max_nodes) ∷ (middle up_to max_until) ∷ []
+limits (left_line count stopped) = (count up_to max_until) ∷ (stopped up_to max_teams) ∷ []
+limits (refused_line code line) = (code up_to max_code) ∷ (line up_to max_until) ∷ []
 
 -- each number keeps its limit
 abbrev pub Kept : List Limit → Type 0
 Kept [] = Unit
-Kept (m ∷ ms) = (natOf (m .field) ≤ m .high) × Kept ms
+Kept (m ∷ ms) = (nat_of m.field ≤ m.high) × Kept ms
 
 -- the line whose numbers stand at these limits
 abbrev pub longest : Line
-longest = openWithLine (pos maxUntil) (pos maxUntil) (pos maxTeams) (pos maxCap) (pos maxNodes) (pos maxProgram)
+longest = open_with_line (pos max_until) (pos max_until) (pos max_teams) (pos max_cap) (pos max_nodes) (pos max_program)

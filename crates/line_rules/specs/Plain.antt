@@ -1,18 +1,15 @@
 -- The bytes that a line may have: lower-case letters, digits, spaces and line ends.
-use Prim.Native.Nat.{ℕ}
-use mathlib.Core.Bool.{Bool, true, _&&_, _||_}
-use mathlib.Core.List.{List, [], _∷_}
-use lib.Dec.{eqb, leb}
-use Rattle·line_rules·specs.specs.Line.{space, lineEnd}
+use Rattle.std.specs.Prelude.{ℕ, Bool, true, ◌&&◌, ◌||◌, List, [], ◌∷◌, eqb, leb}
+use Rattle.line_rules.specs.Line.{space, line_end}
 
-abbrev pub isDigit : ℕ → Bool
-isDigit b = leb 48 b && leb b 57
+abbrev pub is_digit : ℕ → Bool
+is_digit b = leb 48 b && leb b 57
 
-abbrev pub isLetter : ℕ → Bool
-isLetter b = leb 97 b && leb b 122
+abbrev pub is_letter : ℕ → Bool
+is_letter b = leb 97 b && leb b 122
 
-abbrev pub isPlain : ℕ → Bool
-isPlain b = isDigit b || isLetter b || eqb b space || eqb b lineEnd
+abbrev pub is_plain : ℕ → Bool
+is_plain b = is_digit b || is_letter b || eqb b space || eqb b line_end
 
 -- each byte passes the test
 abbrev pub all : (ℕ → Bool) → List ℕ → Bool

@@ -1,27 +1,26 @@
 -- "The fixed words are open, batch, split, left, stopped and refused." Each is its letters in ASCII.
-use Prim.Native.Nat.{ℕ}
+use Rattle.std.specs.Prelude.{ℕ, List, [], ◌∷◌}
 use Prim.Native.Char.{code}
-use Prim.Native.String.{String, [] as none, _∷_ as _then_}
-use mathlib.Core.List.{List, [], _∷_}
+use Prim.Native.String.{String, [] as none, ◌∷◌ as ◌then◌}
 
 abbrev pub ascii : String → List ℕ
 ascii none = []
 ascii (c then s) = code c ∷ ascii s
 
-abbrev pub openWord : List ℕ
-openWord = ascii "open"
+abbrev pub open_word : List ℕ
+open_word = ascii "open"
 
-abbrev pub batchWord : List ℕ
-batchWord = ascii "batch"
+abbrev pub batch_word : List ℕ
+batch_word = ascii "batch"
 
-abbrev pub splitWord : List ℕ
-splitWord = ascii "split"
+abbrev pub split_word : List ℕ
+split_word = ascii "split"
 
-abbrev pub leftWord : List ℕ
-leftWord = ascii "left"
+abbrev pub left_word : List ℕ
+left_word = ascii "left"
 
-abbrev pub stoppedWord : List ℕ
-stoppedWord = ascii "stopped"
+abbrev pub stopped_word : List ℕ
+stopped_word = ascii "stopped"
 
-abbrev pub refusedWord : List ℕ
-refusedWord = ascii "refused"
+abbrev pub refused_word : List ℕ
+refused_word = ascii "refused"

@@ -1,295 +1,295 @@
 -- What holds of the ledger and the records of a run, and what a step makes of them: the laws of the loop over the schedule.
-use mathlib.Core.Path.{_≡_, refl, sym, ap, _∙_}
+use mathlib.Core.Path.{◌≡◌, refl, sym, ap, ◌∙◌}
 use mathlib.Core.Bool.{Bool, true, false, cond}
-use mathlib.Core.List.{List, [], _∷_, _++_, append-assoc, append-nil}
-use Prim.Native.Nat.{ℕ, _+_, _-_, _≤_, _<_, max}
+use mathlib.Core.List.{List, [], ◌∷◌, ◌++◌, append_assoc, append-nil}
+use Prim.Native.Nat.{ℕ, ◌+◌, ◌-◌, ◌≤◌, ◌<◌, max}
 use native.Mathlib.Omega.{arith}
-use native.Mathlib.Decide.{decLe}
+use native.Mathlib.Decide.{dec_le}
 use lib.IntN.{ℤ, pos}
-use lib.ListN.{length, getD, set, take, replicate}
-use lib.Seq.{take-suc, set-getD}
+use lib.ListN.{length, get_or, set, take, replicate}
+use lib.Seq.{take-suc, set-get_or}
 use native.Mathlib.Numerals.{add-one}
-use Rattle·numbers.specs.Fields.{natOf, within}
-use Rattle·numbers.proofs.Laws.{within-true}
-use Rattle·rules.specs.declared.Node.{Node}
-use Rattle·rules.specs.declared.Ledger.{Ledger}
-use Rattle·rules.specs.declared.Opening.{Opening}
-use Rattle·rules.specs.declared.Opened.{Opened}
-use Rattle·rules.specs.declared.View.{View}
-use Rattle·rules.specs.declared.Change.{Change}
-use Rattle·rules.specs.declared.Change.the-variants.{Keep, Own, Advance, Mark, Split}
-use Rattle·rules.specs.Limits.{opens, maxCap, maxTeams, maxNodes, maxProgram}
-use Rattle·rules.specs.Nodes.{blank, owned, parted, leftPart}
-use Rattle·rules.specs.States.{stolenOf}
-use Rattle·rules.specs.Requests.{view, alone, changed}
-use Rattle·rules.specs.Table.{at, stolenIn}
-use Rattle·rules.proofs.Changed.{Changes, keeps, splits, changes}
-use Rattle·rules.proofs.Earlier.{Full}
-use Rattle·rules.specs.Opening.{opening, ledgerOf}
-use Rattle·rules.proofs.Opens.{opened-wf, opened-root}
-use Rattle·rules.proofs.Nodes.{at-next}
-use Rattle·rules.proofs.Sums.{sumBy-zero}
-use Rattle·rules.proofs.Record.{WF, used-high}
-use Rattle·rules.proofs.States.{fresh-none, blank-none}
-use Rattle·steps.specs.declared.Program.the-variants.{Scan}
-use Rattle·steps.specs.declared.Memory.{Memory}
-use Rattle·steps.specs.declared.Memory.the-variants.{Nothing}
-use Rattle·steps.specs.declared.Team.{Team}
-use Rattle·steps.specs.declared.Turned.{Turned}
-use Rattle·steps.specs.Records.{programOf, freshTeam, noTeam, isStopped, remembering}
-use Rattle·steps.specs.Step.{slotOf, recordOf, lentCode, lentStep, stepUnless, recordsAfter}
-use Rattle·steps.specs.Turn.{asks, moves, still, turning, turned, carried}
-use Rattle·steps.specs.Run.{Run, stepTeam, runSteps}
-use Rattle·steps.proofs.Remembers.{Unladen, turn-kept, run-unladen, fresh-unladen}
-use Rattle·runs.proofs.Fits.{Fit}
-use Rattle·runs.proofs.Runs.{opened-used}
-use Rattle·steps.proofs.Turns.{Moving, turn-moves, turn-alone, step-turn, asks-node}
-use Rattle·places.specs.Clipped.{Limited}
-use Rattle·teams.specs.Clipped.{clippedTurn, Ready}
-use Rattle·teams.proofs.Laws.{in-limits, unclipped-turn}
-use Rattle·listing_rules.specs.Steps.{runWith, runFrom, startOf, stepLine, noteOf, notes}
-use Rattle·nodes.specs.Makers.{heldAdvanced, heldMarked, heldRight}
-use Rattle·ledger.specs.Table.{slotFor, nodeFor, viewBy}
-use Rattle·ledger.proofs.Storing.{node-is, view-is, full-taken, full-pair, with-nodes, Next, kept, owned-in, advanced-in, marked-in, split-room, split-in}
-use Rattle·listing_rules.proofs.Runs.{Begun, Here, here}
-use Rattle·listing_rules.proofs.Unfolded.{here-full}
+use Rattle.numbers.specs.Fields.{nat_of, within}
+use Rattle.numbers.proofs.Laws.{within_true}
+use Rattle.rules.specs.declared.Node.{Node}
+use Rattle.rules.specs.declared.Ledger.{Ledger}
+use Rattle.rules.specs.declared.Opening.{Opening}
+use Rattle.rules.specs.declared.Opened.{Opened}
+use Rattle.rules.specs.declared.View.{View}
+use Rattle.rules.specs.declared.Change.{Change}
+use Rattle.rules.specs.declared.Change.TheVariants.{Keep, Own, Advance, Mark, Split}
+use Rattle.rules.specs.Limits.{opens, max_cap, max_teams, max_nodes, max_program}
+use Rattle.rules.specs.Nodes.{blank, owned, parted, left_part}
+use Rattle.rules.specs.States.{stolen_of}
+use Rattle.rules.specs.Requests.{view, alone, changed}
+use Rattle.rules.specs.Table.{at, stolen_in}
+use Rattle.rules.proofs.Changed.{Changes, keeps, splits, changes}
+use Rattle.rules.proofs.Earlier.{Full}
+use Rattle.rules.specs.Opening.{opening, ledger_of}
+use Rattle.rules.proofs.Opens.{opened_wf, opened_root}
+use Rattle.rules.proofs.Nodes.{at_next}
+use Rattle.rules.proofs.Sums.{sum_by-zero}
+use Rattle.rules.proofs.Record.{WF, used_high}
+use Rattle.rules.proofs.States.{fresh_none, blank_none}
+use Rattle.steps.specs.declared.Program.TheVariants.{Scan}
+use Rattle.steps.specs.declared.Memory.{Memory}
+use Rattle.steps.specs.declared.Memory.TheVariants.{Nothing}
+use Rattle.steps.specs.declared.Team.{Team}
+use Rattle.steps.specs.declared.Turned.{Turned}
+use Rattle.steps.specs.Records.{program_of, fresh_team, no_team, is_stopped, remembering}
+use Rattle.steps.specs.Step.{slot_of, record_of, lent_code, lent_step, step_unless, records_after}
+use Rattle.steps.specs.Turn.{asks, moves, still, turning, turned, carried}
+use Rattle.steps.specs.Run.{Run, step_team, run_steps}
+use Rattle.steps.proofs.Remembers.{Unladen, turn_kept, run_unladen, fresh_unladen}
+use Rattle.runs.proofs.Fits.{Fit}
+use Rattle.runs.proofs.Runs.{opened_used}
+use Rattle.steps.proofs.Turns.{Moving, turn_moves, turn_alone, step_turn, asks_node}
+use Rattle.places.specs.Clipped.{Limited}
+use Rattle.teams.specs.Clipped.{clipped_turn, Ready}
+use Rattle.teams.proofs.Laws.{in_limits, unclipped_turn}
+use Rattle.listing_rules.specs.Steps.{run_with, run_from, start_of, step_line, note_of, notes}
+use Rattle.nodes.specs.Makers.{held_advanced, held_marked, held_right}
+use Rattle.ledger.specs.Table.{slot_for, node_for, view_by}
+use Rattle.ledger.proofs.Storing.{node_is, view-is, full_taken, full_pair, with_nodes, Next, kept, owned_in, advanced_in, marked_in, split_room, split_in}
+use Rattle.listing_rules.proofs.Runs.{Begun, Here, here}
+use Rattle.listing_rules.proofs.Unfolded.{here_full}
 
 -- the limits that a step's code counts on
-module _ (l : Ledger) (w : WF l) (number : ℕ) (r : Team) (cap : ℕ) (fit : Fit cap (l .used) r) where
-  ready : number ≤ l .teams → cap ≤ maxCap → Ready number r (alone (view l (r .node)))
+module _ (l : Ledger) (w : WF l) (number : ℕ) (r : Team) (cap : ℕ) (fit : Fit cap l.used r) where
+  ready : number ≤ l.teams → cap ≤ max_cap → Ready number r (alone (view l r.node))
   ready high small =
       let limited : Limited number r =
       record {
-        number-high = omega (arith, w .limits .teams-high);
-        node-high = omega (arith, fit .high, used-high l w);
-        size-high = omega (arith, fit .most);
+        number_high = omega (arith, w.limits.teams_high);
+        node_high = omega (arith, fit.high, used_high l w);
+        size_high = omega (arith, fit.most);
       } in
-      let seen = in-limits l w number r (r .node) limited in
-      record { limited = limited; left-high = seen .left-high; pair-high = seen .pair-high }
+      let seen = in_limits l w number r r.node limited in
+      record { limited = limited; left_high = seen.left_high; pair_high = seen.pair_high }
 
 -- ---- a turn of a team
 
 module _ (number cap : ℕ) (l : Ledger) (r : Team) where
   abbrev turn : Turned
-  turn = turned number cap r (view l (r .node))
+  turn = turned number cap r (view l r.node)
 
-  abbrev turnBy : Bool → Turned
-  turnBy stopped = cond stopped (still r) (turning (view l (r .node)) (asks number r) (moves number cap r))
+  abbrev turn_by : Bool → Turned
+  turn_by stopped = cond stopped (still r) (turning (view l r.node) (asks number r) (moves number cap r))
 
-  pub turn-changes : Changes l (r .node) (turn .change)
+  pub turn_changes : Changes l r.node turn.change
   unfolding turned
-  turn-changes = go (isStopped (r .place)) refl
+  turn_changes = go (is_stopped r.place) refl
     where
-      go : (b : Bool) → isStopped (r .place) ≡ b → Changes l (r .node) (turnBy b .change)
+      go : (b : Bool) → is_stopped r.place ≡ b → Changes l r.node (turn_by b).change
       go true e = keeps
-      go false e = rw (asks-node number r e) at (changes l (asks number r))
+      go false e = rw (asks_node number r e) at (changes l (asks number r))
 
   -- the node that is changed is that of the record
-  turn-node : changed l (turn .node) (turn .change) ≡ changed l (r .node) (turn .change)
+  turn_node : changed l turn.node turn.change ≡ changed l r.node turn.change
   unfolding turned
-  turn-node = go (isStopped (r .place)) refl
+  turn_node = go (is_stopped r.place) refl
     where
-      go : (b : Bool) → isStopped (r .place) ≡ b → changed l (turnBy b .node) (turnBy b .change) ≡ changed l (r .node) (turnBy b .change)
+      go : (b : Bool) → is_stopped r.place ≡ b → changed l (turn_by b).node (turn_by b).change ≡ changed l r.node (turn_by b).change
       go true e = unfold changed in refl
-      go false e = rw (asks-node number r e)
+      go false e = rw (asks_node number r e)
 
 -- ---- a step
 
-module _ (cap : ℕ) (l : Ledger) (w : WF l) (rs : List Team) (number : ℤ) (passes : lentCode l number (pos cap) rs ≡ 0) where
+module _ (cap : ℕ) (l : Ledger) (w : WF l) (rs : List Team) (number : ℤ) (passes : lent_code l number (pos cap) rs ≡ 0) where
   abbrev t : Turned
-  t = turn (natOf number) cap l (recordOf rs number)
+  t = turn (nat_of number) cap l (record_of rs number)
 
-  lent-is : lentStep l number (pos cap) rs ≡ carried l t
-  unfolding lentStep stepUnless
-  lent-is = rw passes (step-turn (natOf number) cap l w (recordOf rs number))
+  lent_is : lent_step l number (pos cap) rs ≡ carried l t
+  unfolding lent_step step_unless
+  lent_is = rw passes (step_turn (nat_of number) cap l w (record_of rs number))
 
-  pub step-is : stepTeam (pos cap) (runWith l rs) number
-      ≡ runWith (changed l (recordOf rs number .node) (t .change)) (set rs (slotOf number) (t .team))
-  unfolding stepTeam recordsAfter
-  step-is = rw (lent-is, turn-node (natOf number) cap l (recordOf rs number))
+  pub step_is : step_team (pos cap) (run_with l rs) number
+      ≡ run_with (changed l (record_of rs number).node t.change) (set rs (slot_of number) t.team)
+  unfolding step_team records_after
+  step_is = rw (lent_is, turn_node (nat_of number) cap l (record_of rs number))
 
-  pub note-is : stepLine number (lentStep l number (pos cap) rs) ≡ noteOf number (t .kind) (t .node) (t .answer)
-  note-is = rw lent-is
+  pub note_is : step_line number (lent_step l number (pos cap) rs) ≡ note_of number t.kind t.node t.answer
+  note_is = rw lent_is
 
 -- where every slot ever used is in use, a split uses its pair's two slots more
-split-grows : (l : Ledger) → Full l → (n c : ℕ) → Changes l n (Split c) → c + 1 ≡ max (l .used) (c + 1)
-split-grows l f n c (splits u s) = omega (arith, full-pair l f)
+split_grows : (l : Ledger) → Full l → (n c : ℕ) → Changes l n (Split c) → c + 1 ≡ max l.used (c + 1)
+split_grows l f n c (splits u s) = omega (arith, full_pair l f)
 
 -- ---- a run one step longer
 
-run-append : (cap : ℤ) (u : Run) (s t : List ℤ) → runFrom cap u (s ++ t) ≡ runFrom cap (runFrom cap u s) t
-unfolding runSteps
-run-append cap u [] t = refl
-run-append cap u (n ∷ s) t = run-append cap (stepTeam cap u n) s t
+run_append : (cap : ℤ) (u : Run) (s t : List ℤ) → run_from cap u (s ++ t) ≡ run_from cap (run_from cap u s) t
+unfolding run_steps
+run_append cap u [] t = refl
+run_append cap u (n ∷ s) t = run_append cap (step_team cap u n) s t
 
-notes-append : (cap : ℤ) (u : Run) (s t : List ℤ) → notes cap u (s ++ t) ≡ notes cap u s ++ notes cap (runFrom cap u s) t
-unfolding runSteps notes
-notes-append cap u [] t = refl
-notes-append cap u (n ∷ s) t = rw (notes-append cap (stepTeam cap u n) s t) (simp append-assoc)
+notes_append : (cap : ℤ) (u : Run) (s t : List ℤ) → notes cap u (s ++ t) ≡ notes cap u s ++ notes cap (run_from cap u s) t
+unfolding run_steps notes
+notes_append cap u [] t = refl
+notes_append cap u (n ∷ s) t = rw (notes_append cap (step_team cap u n) s t) (simp append_assoc)
 
 module _ (cap : ℤ) (u : Run) (s : List ℤ) (i : ℕ) (less : i < length s) where
   abbrev team : ℤ
-  team = getD s i (pos 0)
+  team = get_or s i (pos 0)
 
   abbrev sofar : Run
-  sofar = runFrom cap u (take i s)
+  sofar = run_from cap u (take i s)
 
-  pub run-more : runFrom cap u (take (i + 1) s) ≡ stepTeam cap sofar team
-  run-more = rw (add-one, take-suc s i (pos 0) less, run-append) (unfold runSteps in refl)
+  pub run_more : run_from cap u (take (i + 1) s) ≡ step_team cap sofar team
+  run_more = rw (add-one, take-suc s i (pos 0) less, run_append) (unfold run_steps in refl)
 
-  pub notes-more : notes cap u (take (i + 1) s) ≡ notes cap u (take i s) ++ stepLine team (lentStep (sofar .ledger) team cap (sofar .records))
-  notes-more = rw (add-one, take-suc s i (pos 0) less, notes-append) (unfold notes in (rw append-nil))
+  pub notes_more : notes cap u (take (i + 1) s) ≡ notes cap u (take i s) ++ step_line team (lent_step sofar.ledger team cap sofar.records)
+  notes_more = rw (add-one, take-suc s i (pos 0) less, notes_append) (unfold notes in (rw append-nil))
 
 -- ---- the loop's step
 
 -- the table and the records after a step, and the STOLEN count k
 pub record Goes (cap : ℕ) (u : Run) (s : List ℤ) (next : Ledger) (rs : List Team) (k : ℕ) : Type 0 where
-  pub count : k ≡ stolenIn next
-  pub run : runWith next rs ≡ runFrom (pos cap) u s
+  pub count : k ≡ stolen_in next
+  pub run : run_with next rs ≡ run_from (pos cap) u s
 
 -- what the code stores, by the arms of its match
 pub record Arms (cap : ℕ) (u : Run) (s : List ℤ) (l : Ledger) (rs : List Team) (place stolen : ℕ) (c : Change) : Type 0 where
   pub keep : c ≡ Keep → Goes cap u s l rs stolen
-  pub own : (team : ℕ) → c ≡ Own team → Goes cap u s (with-nodes l (l .used) (set (l .nodes) place (owned (getD (l .nodes) place blank) team))) rs stolen
-  pub advance : (p : ℕ) → c ≡ Advance p → Goes cap u s (with-nodes l (l .used) (set (l .nodes) place (heldAdvanced (getD (l .nodes) place blank) p))) rs stolen
-  pub mark : (p : ℕ) → c ≡ Mark p → Goes cap u s (with-nodes l (l .used) (set (l .nodes) place (heldMarked (getD (l .nodes) place blank) p))) rs (stolen + 1)
-  pub pair : (p : ℕ) → c ≡ Split p → (1 ≤ p) × (p + 1 ≤ maxNodes)
+  pub own : (team : ℕ) → c ≡ Own team → Goes cap u s (with_nodes l l.used (set l.nodes place (owned (get_or l.nodes place blank) team))) rs stolen
+  pub advance : (p : ℕ) → c ≡ Advance p → Goes cap u s (with_nodes l l.used (set l.nodes place (held_advanced (get_or l.nodes place blank) p))) rs stolen
+  pub mark : (p : ℕ) → c ≡ Mark p → Goes cap u s (with_nodes l l.used (set l.nodes place (held_marked (get_or l.nodes place blank) p))) rs (stolen + 1)
+  pub pair : (p : ℕ) → c ≡ Split p → (1 ≤ p) × (p + 1 ≤ max_nodes)
   pub split : (p : ℕ) → c ≡ Split p
-      → Goes cap u s (with-nodes l (p + 1) (set (set (set (l .nodes) place (parted (getD (l .nodes) place blank) p)) (p - 1) (leftPart (getD (l .nodes) place blank))) (p - 1 + 1) (heldRight (getD (l .nodes) place blank)))) rs (stolen - 1)
+      → Goes cap u s (with_nodes l (p + 1) (set (set (set l.nodes place (parted (get_or l.nodes place blank) p)) (p - 1) (left_part (get_or l.nodes place blank))) (p - 1 + 1) (held_right (get_or l.nodes place blank)))) rs (stolen - 1)
   -- no step reports, pushes or folds
   pub moving : Moving c
 
 module _ {o : Opening} {program cap : ℕ} {u : Run} (b : Begun o program cap u) (s : List ℤ) (i : ℕ) (less : i < length s) (l : Ledger) (rs : List Team)
-    (inv : runWith l rs ≡ runFrom (pos cap) u (take i s)) (mine : within (getD s i (pos 0)) 1 (natOf (o .teams)) ≡ true) where
+    (inv : run_with l rs ≡ run_from (pos cap) u (take i s)) (mine : within (get_or s i (pos 0)) 1 (nat_of o.teams) ≡ true) where
   abbrev number : ℤ
-  number = getD s i (pos 0)
+  number = get_or s i (pos 0)
 
   abbrev pub taken : Turned
-  taken = turn (natOf number) cap l (recordOf rs number)
+  taken = turn (nat_of number) cap l (record_of rs number)
 
   stand : Here o cap l rs
   stand = here b (take i s) l rs inv
 
   -- a run folds nothing, so every slot ever used is in use
-  all-used : Full l
-  all-used = here-full b (take i s) l rs inv
+  all_used : Full l
+  all_used = here_full b (take i s) l rs inv
 
   -- the team has a record
-  pub seat-inside : slotOf number < maxTeams
-  seat-inside =
-      let h = within-true number 1 (natOf (o .teams)) mine in
-      let w = stand .wf in
-      omega (arith, h .low, h .high, stand .teams-are, w .limits .teams-high)
+  pub seat_inside : slot_of number < max_teams
+  seat_inside =
+      let h = within_true number 1 (nat_of o.teams) mine in
+      let w = stand.wf in
+      omega (arith, h.low, h.high, stand.teams_are, w.limits.teams_high)
 
-  pub next-run : runWith (changed l (recordOf rs number .node) (taken .change)) (set rs (slotOf number) (taken .team)) ≡ runFrom (pos cap) u (take (i + 1) s)
-  next-run = rw (run-more (pos cap) u s i less, ← inv) (sym (step-is cap l (stand .wf) rs number (stand .passes number mine)))
+  pub next_run : run_with (changed l (record_of rs number).node taken.change) (set rs (slot_of number) taken.team) ≡ run_from (pos cap) u (take (i + 1) s)
+  next_run = rw (run_more (pos cap) u s i less, ← inv) (sym (step_is cap l stand.wf rs number (stand.passes number mine)))
 
-  pub next-notes : notes (pos cap) u (take i s) ++ noteOf number (taken .kind) (taken .node) (taken .answer) ≡ notes (pos cap) u (take (i + 1) s)
-  next-notes = rw (notes-more (pos cap) u s i less, ← inv, note-is cap l (stand .wf) rs number (stand .passes number mine))
+  pub next_notes : notes (pos cap) u (take i s) ++ note_of number taken.kind taken.node taken.answer ≡ notes (pos cap) u (take (i + 1) s)
+  next_notes = rw (notes_more (pos cap) u s i less, ← inv, note_is cap l stand.wf rs number (stand.passes number mine))
 
   -- a team that has stopped stays, and has no line
-  pub rests : isStopped (recordOf rs number .place) ≡ true
-      → (runWith l rs ≡ runFrom (pos cap) u (take (i + 1) s)) × (notes (pos cap) u (take (i + 1) s) ≡ notes (pos cap) u (take i s))
-  unfolding turned changed noteOf
+  pub rests : is_stopped (record_of rs number).place ≡ true
+      → (run_with l rs ≡ run_from (pos cap) u (take (i + 1) s)) × (notes (pos cap) u (take (i + 1) s) ≡ notes (pos cap) u (take i s))
+  unfolding turned changed note_of
   rests e =
-      let still-is : taken ≡ still (recordOf rs number) = rw e in (
-        ap (λ (ts : List Team). runWith l ts) (sym (set-getD rs (slotOf number) noTeam)) ∙ rw still-is at next-run,
-        sym (rw (still-is, append-nil) at next-notes),
+      let still-is : taken ≡ still (record_of rs number) = rw e in (
+        ap (λ (ts : List Team). run_with l ts) (sym (set-get_or rs (slot_of number) no_team)) ∙ rw still-is at next_run,
+        sym (rw (still-is, append-nil) at next_notes),
       )
 
   -- the turn that the code takes is the step's
-  pub taken-is : (slot place stolen k : ℕ) (x : Node) (v : View) (t : Turned)
-      → slot ≡ slotOf number
-      → place ≡ slotFor (getD rs slot noTeam .node)
-      → stolen ≡ stolenIn l
-      → x ≡ nodeFor (getD rs slot noTeam .node) (getD (l .nodes) place blank)
-      → v ≡ viewBy (l .teams) (l .room) (l .used) (l .used) stolen (l .used + 1) x
-      → k ≡ natOf number
-      → t ≡ clippedTurn k cap (getD rs slot noTeam) v
+  pub taken_is : (slot place stolen k : ℕ) (x : Node) (v : View) (t : Turned)
+      → slot ≡ slot_of number
+      → place ≡ slot_for (get_or rs slot no_team).node
+      → stolen ≡ stolen_in l
+      → x ≡ node_for (get_or rs slot no_team).node (get_or l.nodes place blank)
+      → v ≡ view_by l.teams l.room l.used l.used stolen (l.used + 1) x
+      → k ≡ nat_of number
+      → t ≡ clipped_turn k cap (get_or rs slot no_team) v
       → t ≡ taken
-  taken-is slot place stolen k x v t es ep ec ex ev ek et =
-      let w = stand .wf in
-      let r : Team = recordOf rs number in
-      let n : ℕ = r .node in
-      let h = within-true number 1 (natOf (o .teams)) mine in
-      let node : x ≡ at l n = ex ∙ rw (ep, es) (node-is l n (w .slots)) in
-      let seen : v ≡ alone (view l n) = ev ∙ view-is l n (l .used) stolen (l .used + 1) x (full-taken l all-used) ec (full-pair l all-used) node in
-      let good : Ready k (getD rs slot noTeam) v =
-      rw (ek, es, seen) (ready l w (natOf number) r cap (stand .fits number mine) (omega (arith, h .high, stand .teams-are)) (stand .small)) in
-      et ∙ unclipped-turn _ _ _ _ good ∙ rw (ek, es, seen) (turn-alone (natOf number) cap (recordOf rs number) (view l (recordOf rs number .node)))
+  taken_is slot place stolen k x v t es ep ec ex ev ek et =
+      let w = stand.wf in
+      let r : Team = record_of rs number in
+      let n : ℕ = r.node in
+      let h = within_true number 1 (nat_of o.teams) mine in
+      let node : x ≡ at l n = ex ∙ rw (ep, es) (node_is l n w.slots) in
+      let seen : v ≡ alone (view l n) = ev ∙ view-is l n l.used stolen (l.used + 1) x (full_taken l all_used) ec (full_pair l all_used) node in
+      let good : Ready k (get_or rs slot no_team) v =
+      rw (ek, es, seen) (ready l w (nat_of number) r cap (stand.fits number mine) (omega (arith, h.high, stand.teams_are)) stand.small) in
+      et ∙ unclipped_turn _ _ _ _ good ∙ rw (ek, es, seen) (turn_alone (nat_of number) cap (record_of rs number) (view l (record_of rs number).node))
 
   -- a record of the scan remembers nothing, so the loop stores none of its memory: with none stored it is the step's
   unladen : Unladen rs
   unladen =
-      let e : rs ≡ runFrom (pos cap) (startOf o program) (take i s) .records = ap (λ (v : Run). v .records) inv ∙ rw (b .start-is) in
-      rw e (run-unladen _ _ (fresh-unladen (programOf program) maxTeams))
+      let e : rs ≡ (run_from (pos cap) (start_of o program) (take i s)).records = ap (λ (v : Run). v.records) inv ∙ rw b.start_is in
+      rw e (run_unladen _ _ (fresh_unladen (program_of program) max_teams))
 
-  pub scan-stored : (t : Turned) → t ≡ taken → t .team .program ≡ Scan → remembering (t .team) Nothing ≡ t .team
-  scan-stored t et e =
-      let k = turn-kept (natOf number) cap (recordOf rs number) (view l (recordOf rs number .node)) in
-      let was : recordOf rs number .program ≡ Scan = sym (k .program) ∙ (rw et at e) in
-      let none : t .team .memory ≡ Nothing = rw et (k .nothing was (unladen .nothing (slotOf number) was)) in
-      ap (λ (m : Memory). remembering (t .team) m) (sym none)
+  pub scan_stored : (t : Turned) → t ≡ taken → t.team.program ≡ Scan → remembering t.team Nothing ≡ t.team
+  scan_stored t et e =
+      let k = turn_kept (nat_of number) cap (record_of rs number) (view l (record_of rs number).node) in
+      let was : (record_of rs number).program ≡ Scan = sym k.program ∙ (rw et at e) in
+      let none : t.team.memory ≡ Nothing = rw et (k.nothing was (unladen.nothing (slot_of number) was)) in
+      ap (λ (m : Memory). remembering t.team m) (sym none)
 
   pub arms : (slot place stolen : ℕ) (t : Turned)
-      → slot ≡ slotOf number
-      → place ≡ slotFor (getD rs slot noTeam .node)
-      → stolen ≡ stolenIn l
+      → slot ≡ slot_of number
+      → place ≡ slot_for (get_or rs slot no_team).node
+      → stolen ≡ stolen_in l
       → t ≡ taken
-      → Arms cap u (take (i + 1) s) l (set rs slot (t .team)) place stolen (t .change)
+      → Arms cap u (take (i + 1) s) l (set rs slot t.team) place stolen t.change
   arms slot place stolen t es ep ec et =
       record {
-        keep = λ e. goes e (rw ec (kept l w n (by-turn e)));
-        own = λ team e. goes e (rw (at-place, ec) (owned-in l w n team (by-turn e)));
-        advance = λ p e. goes e (rw (at-place, ec) (advanced-in l w n p (by-turn e)));
-        mark = λ p e. goes e (rw (at-place, ec) (marked-in l w n p (by-turn e)));
-        pair = λ p e. split-room l w n p (by-turn e);
-        split = λ p e. goes e (rw (at-place, ec) (split-in l w n p (p + 1) (by-turn e) (split-grows l all-used n p (by-turn e))));
-        moving = rw et (turn-moves (natOf number) cap (recordOf rs number) (view l n));
+        keep = λ e. goes e (rw ec (kept l w n (by_turn e)));
+        own = λ team e. goes e (rw (at_place, ec) (owned_in l w n team (by_turn e)));
+        advance = λ p e. goes e (rw (at_place, ec) (advanced_in l w n p (by_turn e)));
+        mark = λ p e. goes e (rw (at_place, ec) (marked_in l w n p (by_turn e)));
+        pair = λ p e. split_room l w n p (by_turn e);
+        split = λ p e. goes e (rw (at_place, ec) (split_in l w n p (p + 1) (by_turn e) (split_grows l all_used n p (by_turn e))));
+        moving = rw et (turn_moves (nat_of number) cap (record_of rs number) (view l n));
       }
     where
       w : WF l
-      w = stand .wf
+      w = stand.wf
 
       n : ℕ
-      n = recordOf rs number .node
+      n = (record_of rs number).node
 
-      at-place : place ≡ slotFor n
-      at-place = rw es at ep
+      at_place : place ≡ slot_for n
+      at_place = rw es at ep
 
-      by-turn : {c : Change} → t .change ≡ c → Changes l (recordOf rs number .node) c
-      by-turn e = rw (← e, et) (turn-changes (natOf number) cap l (recordOf rs number))
+      by_turn : {c : Change} → t.change ≡ c → Changes l (record_of rs number).node c
+      by_turn e = rw (← e, et) (turn_changes (nat_of number) cap l (record_of rs number))
 
       goes : {used k : ℕ} {ns : List Node} {c : Change}
-          → t .change ≡ c
-          → Next l used ns k (changed l (recordOf rs number .node) c)
-          → Goes cap u (take (i + 1) s) (with-nodes l used ns) (set rs slot (t .team)) k
+          → t.change ≡ c
+          → Next l used ns k (changed l (record_of rs number).node c)
+          → Goes cap u (take (i + 1) s) (with_nodes l used ns) (set rs slot t.team) k
       goes e f =
           record {
-            count = f .count-is ∙ ap stolenIn (sym (f .is));
-            run = ap (λ (m : Ledger). runWith m (set rs slot (t .team))) (f .is) ∙ rw (← e, es, et) next-run;
+            count = f.count_is ∙ ap stolen_in (sym f.is);
+            run = ap (λ (m : Ledger). run_with m (set rs slot t.team)) f.is ∙ rw (← e, es, et) next_run;
           }
 
 -- ---- before the loop
 
-pub begun-with : (o : Opening) (program cap : ℕ) (d : Opened) (rs : List Team)
+pub begun_with : (o : Opening) (program cap : ℕ) (d : Opened) (rs : List Team)
     → opens o ≡ true
-    → program ≤ maxProgram
-    → cap ≡ natOf (o .cap)
+    → program ≤ max_program
+    → cap ≡ nat_of o.cap
     → d ≡ opening o
-    → rs ≡ replicate maxTeams (freshTeam (programOf program))
-    → Begun o program cap (runWith (d .ledger) rs)
+    → rs ≡ replicate max_teams (fresh_team (program_of program))
+    → Begun o program cap (run_with d.ledger rs)
 unfolding opening
-begun-with o program cap d rs ok known ec ed er = record { ok = ok; known = known; cap-is = ec; start-is = rw (ed, ok, er) }
+begun_with o program cap d rs ok known ec ed er = record { ok = ok; known = known; cap_is = ec; start_is = rw (ed, ok, er) }
 
-pub none-stolen : (o : Opening) (program cap : ℕ) (l : Ledger) (rs : List Team) → Begun o program cap (runWith l rs) → _≡_ {A = ℕ} 0 (stolenIn l)
-unfolding stolenIn
-none-stolen o program cap l rs b =
-    let e : l ≡ ledgerOf o = ap (λ (u : Run). u .ledger) (b .start-is) in
-    rw e (sym (sumBy-zero stolenOf (ledgerOf o .nodes) blank (λ i h. rw (← at-next (ledgerOf o) i) (go i (decLe (i + 1) 1)))))
+pub none_stolen : (o : Opening) (program cap : ℕ) (l : Ledger) (rs : List Team) → Begun o program cap (run_with l rs) → ◌≡◌ {A = ℕ} 0 (stolen_in l)
+unfolding stolen_in
+none_stolen o program cap l rs b =
+    let e : l ≡ ledger_of o = ap (λ (u : Run). u.ledger) b.start_is in
+    rw e (sym (sum_by-zero stolen_of (ledger_of o).nodes blank (λ i h. rw (← at_next (ledger_of o) i) (go i (dec_le (i + 1) 1)))))
   where
-    go : (i : ℕ) → Dec (i + 1 ≤ 1) → stolenOf (at (ledgerOf o) (i + 1)) ≡ 0
+    go : (i : ℕ) → Dec (i + 1 ≤ 1) → stolen_of (at (ledger_of o) (i + 1)) ≡ 0
     go i (yes h) =
         let z : i + 1 ≡ 1 = omega arith in
-        rw (z, opened-root (natOf (o .start)) (natOf (o .until)) (natOf (o .teams)) (natOf (o .nodes))) (fresh-none (natOf (o .start)) (natOf (o .until)))
-    go i (no h) = rw (opened-wf o (b .ok) .blank (i + 1) (omega (arith, opened-used o))) blank-none
+        rw (z, opened_root (nat_of o.start) (nat_of o.until) (nat_of o.teams) (nat_of o.nodes)) (fresh_none (nat_of o.start) (nat_of o.until))
+    go i (no h) = rw ((opened_wf o b.ok).blank (i + 1) (omega (arith, opened_used o))) blank_none

@@ -1,158 +1,158 @@
 -- What a run writes: its lines so far stand at the front of the area, and the next one has room.
-use mathlib.Core.Path.{_≡_, refl, sym, ap, _∙_}
-use mathlib.Core.Logic.{_≢_}
+use mathlib.Core.Path.{◌≡◌, refl, sym, ap, ◌∙◌}
+use mathlib.Core.Logic.{◌≢◌}
 use mathlib.Core.Bool.{Bool, true, false, cond}
-use mathlib.Core.List.{List, [], _∷_, _++_}
-use Prim.Native.Nat.{ℕ, _+_, _*_, _≤_, _<_}
+use mathlib.Core.List.{List, [], ◌∷◌, ◌++◌}
+use Prim.Native.Nat.{ℕ, ◌+◌, ◌*◌, ◌≤◌, ◌<◌}
 use native.Mathlib.Omega.{arith}
 use lib.IntN.{ℤ, pos}
-use lib.ListN.{length, getD, take, length-append}
-use lib.Seq.{length-take-le, getD-take}
-use borrow.Author.Tests.{ne-eqb}
-use Rattle·numbers.specs.Fields.{natOf, within}
-use Rattle·numbers.proofs.Laws.{within-true}
-use Rattle·rules.specs.declared.Answer.{Answer}
-use Rattle·rules.specs.declared.Ledger.{Ledger}
-use Rattle·rules.specs.declared.Opening.{Opening}
-use Rattle·rules.specs.Asks.{ADVANCE, EXPAND}
-use Rattle·rules.proofs.Opens.{opens-facts}
-use Rattle·steps.specs.declared.Team.{Team}
-use Rattle·steps.specs.declared.Turned.{Turned}
-use Rattle·steps.specs.Run.{Run}
-use Rattle·line_rules.specs.Line.{Line, openLine, openWithLine, batchLine, splitLine, text, spaced, whole}
-use Rattle·line_rules.specs.Longest.{maxLine}
-use Rattle·digits.specs.Area.{Put}
-use Rattle·digits.proofs.Area.{put-then, put-length}
-use Rattle·listing_rules.specs.Steps.{grants, runWith, runFrom, noteOf, isNamed, openBy, headLine, notes, lastLine, runLines}
-use Rattle·listing_rules.specs.Listing.{bytesOf}
-use Rattle·listing_rules.specs.Lent.{roomFor}
-use Rattle·listing_rules.proofs.Lines.{one-line, bytes-append}
-use Rattle·listing_rules.proofs.Runs.{Begun, here}
-use Rattle·listing_rules.proofs.Short.{last-short, begun-bytes}
-use Rattle·listing·proofs.proofs.Stepping.{taken, next-notes}
+use lib.ListN.{length, get_or, take, length-append}
+use lib.Seq.{length-take-le, get_or-take}
+use borrow.Author.Tests.{ne_eqb}
+use Rattle.numbers.specs.Fields.{nat_of, within}
+use Rattle.numbers.proofs.Laws.{within_true}
+use Rattle.rules.specs.declared.Answer.{Answer}
+use Rattle.rules.specs.declared.Ledger.{Ledger}
+use Rattle.rules.specs.declared.Opening.{Opening}
+use Rattle.rules.specs.Asks.{ADVANCE, EXPAND}
+use Rattle.rules.proofs.Opens.{opens_facts}
+use Rattle.steps.specs.declared.Team.{Team}
+use Rattle.steps.specs.declared.Turned.{Turned}
+use Rattle.steps.specs.Run.{Run}
+use Rattle.line_rules.specs.Line.{Line, open_line, open_with_line, batch_line, split_line, text, spaced, whole}
+use Rattle.line_rules.specs.Longest.{max_line}
+use Rattle.digits.specs.Area.{Put}
+use Rattle.digits.proofs.Area.{put_then, put-length}
+use Rattle.listing_rules.specs.Steps.{grants, run_with, run_from, note_of, is_named, open_by, head_line, notes, last_line, run_lines}
+use Rattle.listing_rules.specs.Listing.{bytes_of}
+use Rattle.listing_rules.specs.Lent.{room_for}
+use Rattle.listing_rules.proofs.Lines.{one_line, bytes_append}
+use Rattle.listing_rules.proofs.Runs.{Begun, here}
+use Rattle.listing_rules.proofs.Short.{last_short, begun_bytes}
+use Rattle.listing.proofs.Stepping.{taken, next_notes}
 
 -- ---- the line of a step
 
 module _ (team : ℤ) (kind node : ℕ) (a : Answer) where
-  pub batch-note : grants ADVANCE kind a ≡ true
-      → bytesOf (noteOf team kind node a) ≡ text (batchLine team (pos node) (pos (a .«from»)) (pos (a .to)))
-  unfolding noteOf
-  batch-note e = rw (e, one-line)
+  pub batch_note : grants ADVANCE kind a ≡ true
+      → bytes_of (note_of team kind node a) ≡ text (batch_line team (pos node) (pos a.«from») (pos a.to))
+  unfolding note_of
+  batch_note e = rw (e, one_line)
 
-  pub split-note : grants ADVANCE kind a ≡ false → grants EXPAND kind a ≡ true
-      → bytesOf (noteOf team kind node a) ≡ text (splitLine (pos node) (pos (a .left)) (pos (a .«from»)))
-  unfolding noteOf
-  split-note e f = rw (e, f, one-line)
+  pub split_note : grants ADVANCE kind a ≡ false → grants EXPAND kind a ≡ true
+      → bytes_of (note_of team kind node a) ≡ text (split_line (pos node) (pos a.left) (pos a.«from»))
+  unfolding note_of
+  split_note e f = rw (e, f, one_line)
 
-  pub no-note : grants ADVANCE kind a ≡ false → grants EXPAND kind a ≡ false → bytesOf (noteOf team kind node a) ≡ []
-  unfolding noteOf bytesOf
-  no-note e f = rw (e, f)
+  pub no_note : grants ADVANCE kind a ≡ false → grants EXPAND kind a ≡ false → bytes_of (note_of team kind node a) ≡ []
+  unfolding note_of bytes_of
+  no_note e f = rw (e, f)
 
 -- ---- the open line
 
 module _ (start until teams cap nodes : ℤ) {program : ℕ} where
-  pub open-five : program ≡ 0 → openBy start until teams cap nodes program ≡ openLine start until teams cap nodes
-  open-five e = rw e
+  pub open_five : program ≡ 0 → open_by start until teams cap nodes program ≡ open_line start until teams cap nodes
+  open_five e = rw e
 
-  pub open-six : program ≢ 0 → openBy start until teams cap nodes program ≡ openWithLine start until teams cap nodes (pos program)
-  open-six ne = rw (ne-eqb program 0 ne)
+  pub open_six : program ≢ 0 → open_by start until teams cap nodes program ≡ open_with_line start until teams cap nodes (pos program)
+  open_six ne = rw (ne_eqb program 0 ne)
 
 -- a line tells of a number what is written of it
-pub open-text : (start until teams cap nodes : ℤ) (program : ℕ)
-    → text (openBy (pos (natOf start)) (pos (natOf until)) (pos (natOf teams)) (pos (natOf cap)) (pos (natOf nodes)) program)
-    ≡ text (openBy start until teams cap nodes program)
+pub open_text : (start until teams cap nodes : ℤ) (program : ℕ)
+    → text (open_by (pos (nat_of start)) (pos (nat_of until)) (pos (nat_of teams)) (pos (nat_of cap)) (pos (nat_of nodes)) program)
+    ≡ text (open_by start until teams cap nodes program)
 unfolding whole spaced
-open-text start until teams cap nodes program = go (isNamed program)
+open_text start until teams cap nodes program = go (is_named program)
   where
     by : Bool → (ℤ → ℤ) → Line
     by b f =
         cond
         b
-        (openWithLine (f start) (f until) (f teams) (f cap) (f nodes) (pos program))
-        (openLine (f start) (f until) (f teams) (f cap) (f nodes))
+        (open_with_line (f start) (f until) (f teams) (f cap) (f nodes) (pos program))
+        (open_line (f start) (f until) (f teams) (f cap) (f nodes))
 
-    go : (b : Bool) → text (by b (λ z. pos (natOf z))) ≡ text (by b (λ z. z))
+    go : (b : Bool) → text (by b (λ z. pos (nat_of z))) ≡ text (by b (λ z. z))
     go true = refl
     go false = refl
 
 -- ---- lines put after others
 
-module _ {area later : List ℕ} {at next : ℕ} (xs ys zs : List Line) (is : xs ++ ys ≡ zs) (room : at + length (bytesOf zs) ≤ length area)
-    (p : Put area at (bytesOf xs) next later) where
-  size : length (bytesOf zs) ≡ length (bytesOf xs) + length (bytesOf ys)
-  size = rw (← is, bytes-append xs ys, length-append)
+module _ {area later : List ℕ} {at next : ℕ} (xs ys zs : List Line) (is : xs ++ ys ≡ zs) (room : at + length (bytes_of zs) ≤ length area)
+    (p : Put area at (bytes_of xs) next later) where
+  size : length (bytes_of zs) ≡ length (bytes_of xs) + length (bytes_of ys)
+  size = rw (← is, bytes_append xs ys, length-append)
 
-  fits : at + length (bytesOf xs) ≤ length area
+  fits : at + length (bytes_of xs) ≤ length area
   fits = omega (arith, size)
 
-  pub lines-room : next + length (bytesOf ys) ≤ length later
-  lines-room = omega (arith, size, p .place, put-length p fits)
+  pub lines_room : next + length (bytes_of ys) ≤ length later
+  lines_room = omega (arith, size, p.place, put-length p fits)
 
-  pub lines-put : {last : ℕ} {done : List ℕ} → Put later next (bytesOf ys) last done → Put area at (bytesOf zs) last done
-  lines-put q = rw (← is, bytes-append xs ys) (put-then p q fits)
+  pub lines_put : {last : ℕ} {done : List ℕ} → Put later next (bytes_of ys) last done → Put area at (bytes_of zs) last done
+  lines_put q = rw (← is, bytes_append xs ys) (put_then p q fits)
 
 -- ---- the lines of a run from an opening, over a schedule of team numbers, in an area that has room for them
 
 module _ {o : Opening} {program cap : ℕ} {u : Run} (b : Begun o program cap u) (s : List ℤ) (count : ℕ) (inside : count ≤ length s)
-    (teams : (i : ℕ) → i < count → within (getD s i (pos 0)) 1 (natOf (o .teams)) ≡ true) (area : List ℕ) (room : roomFor count ≤ length area) where
+    (teams : (i : ℕ) → i < count → within (get_or s i (pos 0)) 1 (nat_of o.teams) ≡ true) (area : List ℕ) (room : room_for count ≤ length area) where
   abbrev pub sofar : ℕ → List Line
   sofar i = notes (pos cap) u (take i s)
 
-  sofar-bytes : (i : ℕ) → i ≤ count → length (text (headLine o program)) + length (bytesOf (sofar i)) ≤ maxLine * (i + 1)
-  unfolding bytesOf
-  sofar-bytes i h =
+  sofar_bytes : (i : ℕ) → i ≤ count → length (text (head_line o program)) + length (bytes_of (sofar i)) ≤ max_line * (i + 1)
+  unfolding bytes_of
+  sofar_bytes i h =
       let n : length (take i s) ≡ i = length-take-le i s (omega arith) in
       rw (n, length-append) at
-      (begun-bytes b (take i s) (λ k less. let below : k < i = omega arith in rw (getD-take i s k (pos 0) below) (teams k (omega arith))))
+      (begun_bytes b (take i s) (λ k less. let below : k < i = omega arith in rw (get_or-take i s k (pos 0) below) (teams k (omega arith))))
 
-  pub head-room : 0 + length (text (headLine o program)) ≤ length area
-  head-room = omega (arith, sofar-bytes 0 (omega arith))
+  pub head_room : 0 + length (text (head_line o program)) ≤ length area
+  head_room = omega (arith, sofar_bytes 0 (omega arith))
 
   -- the open line stands
-  module _ {first : ℕ} {headed : List ℕ} (h : Put area 0 (text (headLine o program)) first headed) where
-    sofar-room : (i : ℕ) → i ≤ count → first + length (bytesOf (sofar i)) ≤ length headed
-    sofar-room i less = omega (arith, sofar-bytes i less, h .place, put-length h head-room)
+  module _ {first : ℕ} {headed : List ℕ} (h : Put area 0 (text (head_line o program)) first headed) where
+    sofar_room : (i : ℕ) → i ≤ count → first + length (bytes_of (sofar i)) ≤ length headed
+    sofar_room i less = omega (arith, sofar_bytes i less, h.place, put-length h head_room)
 
     -- the line of the next step
-    module _ (i : ℕ) (more : i < count) (l : Ledger) (rs : List Team) (inv : runWith l rs ≡ runFrom (pos cap) u (take i s)) (name : ℕ) (t : Turned)
-        (named : name ≡ natOf (getD s i (pos 0)))
+    module _ (i : ℕ) (more : i < count) (l : Ledger) (rs : List Team) (inv : run_with l rs ≡ run_from (pos cap) u (take i s)) (name : ℕ) (t : Turned)
+        (named : name ≡ nat_of (get_or s i (pos 0)))
         (turns : t ≡ taken b s i (omega arith) l rs inv (teams i more))
-        {end : ℕ} {out : List ℕ} (p : Put headed first (bytesOf (sofar i)) end out) where
-      next-lines : sofar i ++ noteOf (pos name) (t .kind) (t .node) (t .answer) ≡ sofar (i + 1)
-      next-lines =
-          let is : getD s i (pos 0) ≡ pos name = within-true (getD s i (pos 0)) 1 (natOf (o .teams)) (teams i more) .is ∙ ap pos (sym named) in
-          rw (turns, ← is) (next-notes b s i (omega arith) l rs inv (teams i more))
+        {end : ℕ} {out : List ℕ} (p : Put headed first (bytes_of (sofar i)) end out) where
+      next_lines : sofar i ++ note_of (pos name) t.kind t.node t.answer ≡ sofar (i + 1)
+      next_lines =
+          let is : get_or s i (pos 0) ≡ pos name = (within_true (get_or s i (pos 0)) 1 (nat_of o.teams) (teams i more)).is ∙ ap pos (sym named) in
+          rw (turns, ← is) (next_notes b s i (omega arith) l rs inv (teams i more))
 
-      pub note-room : end + length (bytesOf (noteOf (pos name) (t .kind) (t .node) (t .answer))) ≤ length out
-      note-room = lines-room (sofar i) _ (sofar (i + 1)) next-lines (sofar-room (i + 1) (omega arith)) p
+      pub note_room : end + length (bytes_of (note_of (pos name) t.kind t.node t.answer)) ≤ length out
+      note_room = lines_room (sofar i) _ (sofar (i + 1)) next_lines (sofar_room (i + 1) (omega arith)) p
 
-      pub note-put : {last : ℕ} {done : List ℕ} → Put out end (bytesOf (noteOf (pos name) (t .kind) (t .node) (t .answer))) last done
-          → Put headed first (bytesOf (sofar (i + 1))) last done
-      note-put q = lines-put (sofar i) _ (sofar (i + 1)) next-lines (sofar-room (i + 1) (omega arith)) p q
+      pub note_put : {last : ℕ} {done : List ℕ} → Put out end (bytes_of (note_of (pos name) t.kind t.node t.answer)) last done
+          → Put headed first (bytes_of (sofar (i + 1))) last done
+      note_put q = lines_put (sofar i) _ (sofar (i + 1)) next_lines (sofar_room (i + 1) (omega arith)) p q
 
     -- the left line
-    module _ (l : Ledger) (rs : List Team) (inv : runWith l rs ≡ runFrom (pos cap) u (take count s))
-        {end : ℕ} {out : List ℕ} (p : Put headed first (bytesOf (sofar count)) end out) where
+    module _ (l : Ledger) (rs : List Team) (inv : run_with l rs ≡ run_from (pos cap) u (take count s))
+        {end : ℕ} {out : List ℕ} (p : Put headed first (bytes_of (sofar count)) end out) where
       abbrev ended : List Line
-      ended = sofar count ++ (lastLine (runWith l rs) ∷ [])
+      ended = sofar count ++ (last_line (run_with l rs) ∷ [])
 
-      ended-room : first + length (bytesOf ended) ≤ length headed
-      ended-room =
-          rw (bytes-append (sofar count) (lastLine (runWith l rs) ∷ []), length-append, one-line)
-          (omega (arith, sofar-bytes count (omega arith), last-short (here b (take count s) l rs inv), h .place, put-length h head-room))
+      ended_room : first + length (bytes_of ended) ≤ length headed
+      ended_room =
+          rw (bytes_append (sofar count) (last_line (run_with l rs) ∷ []), length-append, one_line)
+          (omega (arith, sofar_bytes count (omega arith), last_short (here b (take count s) l rs inv), h.place, put-length h head_room))
 
-      pub last-room : end + length (text (lastLine (runWith l rs))) ≤ length out
-      last-room = rw (one-line (lastLine (runWith l rs))) at (lines-room (sofar count) _ ended refl ended-room p)
+      pub last_room : end + length (text (last_line (run_with l rs))) ≤ length out
+      last_room = rw (one_line (last_line (run_with l rs))) at (lines_room (sofar count) _ ended refl ended_room p)
 
-      all-lines : headLine o program ∷ ended ≡ runLines o program (take count s)
-      unfolding runLines
-      all-lines =
-          let c : pos cap ≡ o .cap = rw (b .cap-is) (sym (opens-facts o (b .ok) .cap .is)) in
-          ap (λ (r : Run). headLine o program ∷ (sofar count ++ (lastLine r ∷ []))) inv ∙ rw (c, b .start-is)
+      all_lines : head_line o program ∷ ended ≡ run_lines o program (take count s)
+      unfolding run_lines
+      all_lines =
+          let c : pos cap ≡ o.cap = rw b.cap_is (sym (opens_facts o b.ok).cap.is) in
+          ap (λ (r : Run). head_line o program ∷ (sofar count ++ (last_line r ∷ []))) inv ∙ rw (c, b.start_is)
 
-      pub last-put : {last : ℕ} {done : List ℕ} → Put out end (text (lastLine (runWith l rs))) last done
-          → Put area 0 (bytesOf (runLines o program (take count s))) last done
-      unfolding bytesOf
-      last-put q =
-          rw (← all-lines)
-          (put-then h (lines-put (sofar count) _ ended refl ended-room p (rw (one-line (lastLine (runWith l rs))) q)) head-room)
+      pub last_put : {last : ℕ} {done : List ℕ} → Put out end (text (last_line (run_with l rs))) last done
+          → Put area 0 (bytes_of (run_lines o program (take count s))) last done
+      unfolding bytes_of
+      last_put q =
+          rw (← all_lines)
+          (put_then h (lines_put (sofar count) _ ended refl ended_room p (rw (one_line (last_line (run_with l rs))) q)) head_room)

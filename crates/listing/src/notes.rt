@@ -1,14 +1,12 @@
 // The lines of a listing, each where the one before it ended. The area has room for each, so that none is refused.
-ghost use Prim.Native.Nat.{_+_, _≤_};
-ghost use lib.IntN.{pos};
-ghost use lib.ListN.{length};
-ghost use Rattle·numbers.specs.Progress.{signed};
-ghost use Rattle·line_rules.specs.Line.{refusedLine, text};
-ghost use Rattle·digits.specs.Area.{Put};
-ghost use Rattle·listing_rules.specs.Listing.{bytesOf};
-ghost use Rattle·listing_rules.specs.Steps.{noteOf, openBy, headLine};
-use rules::Opening;
-use rules::Request;
+ghost use Rattle.std.specs.Prelude.{◌+◌, ◌≤◌, pos, length};
+ghost use Rattle.numbers.specs.Progress.{signed};
+ghost use Rattle.line_rules.specs.Line.{refused_line, text};
+ghost use Rattle.digits.specs.Area.{Put};
+ghost use Rattle.listing_rules.specs.Listing.{bytes_of};
+ghost use Rattle.listing_rules.specs.Steps.{note_of, open_by, head_line};
+
+use rules::{Opening, Request};
 use steps::Turned;
 
 // The open line by its numbers. One of five has no program's.
@@ -21,8 +19,8 @@ fn open_by(
     nodes: u64,
     program: u64,
 ) -> usize
-    requires { ⌜ 0 + length (text (openBy (pos start) (pos until) (pos teams) (pos cap) (pos nodes) program)) ≤ length (now out) ⌝ }
-    ensures { λ r. ⌜ Put (now (out .entry)) 0 (text (openBy (pos start) (pos until) (pos teams) (pos cap) (pos nodes) program)) r (now (out .exit)) ⌝ }
+    requires { 0 + length (text (open_by (pos start) (pos until) (pos teams) (pos cap) (pos nodes) program)) ≤ length out.old }
+    ensures { Put out.old 0 (text (open_by (pos start) (pos until) (pos teams) (pos cap) (pos nodes) program)) result out.new }
 {
     if program == 0 {
         return lines::add_open(out, 0, start, until, teams, cap, nodes);
@@ -32,8 +30,8 @@ fn open_by(
 
 // The open line: the header's numbers, with the program's where it has one.
 pub(crate) fn head(out: &mut [u8], o: Opening, program: u32) -> usize
-    requires { ⌜ 0 + length (text (headLine o program)) ≤ length (now out) ⌝ }
-    ensures { λ r. ⌜ Put (now (out .entry)) 0 (text (headLine o program)) r (now (out .exit)) ⌝ }
+    requires { 0 + length (text (head_line o program)) ≤ length out.old }
+    ensures { Put out.old 0 (text (head_line o program)) result out.new }
 {
     let start = numbers::natural(o.start) as u64;
     let until = numbers::natural(o.until) as u64;
@@ -45,8 +43,8 @@ pub(crate) fn head(out: &mut [u8], o: Opening, program: u32) -> usize
 
 // The line of a step, where it has one.
 pub(crate) fn note(out: &mut [u8], at: usize, team: u32, t: Turned) -> usize
-    requires { ⌜ at + length (bytesOf (noteOf (pos team) (t .kind) (t .node) (t .answer))) ≤ length (now out) ⌝ }
-    ensures { λ r. ⌜ Put (now (out .entry)) at (bytesOf (noteOf (pos team) (t .kind) (t .node) (t .answer))) r (now (out .exit)) ⌝ }
+    requires { at + length (bytes_of (note_of (pos team) t.kind t.node t.answer)) ≤ length out.old }
+    ensures { Put out.old at (bytes_of (note_of (pos team) t.kind t.node t.answer)) result out.new }
 {
     let a = t.answer;
     let node = t.node as u64;
@@ -62,8 +60,8 @@ pub(crate) fn note(out: &mut [u8], at: usize, team: u32, t: Turned) -> usize
 
 // The line of a refused text.
 pub(crate) fn refusal(out: &mut [u8], code: u32, line: u32) -> usize
-    requires { ⌜ 0 + length (text (refusedLine (signed code) (signed line))) ≤ length (now out) ⌝ }
-    ensures { λ r. ⌜ Put (now (out .entry)) 0 (text (refusedLine (signed code) (signed line))) r (now (out .exit)) ⌝ }
+    requires { 0 + length (text (refused_line (signed code) (signed line))) ≤ length out.old }
+    ensures { Put out.old 0 (text (refused_line (signed code) (signed line))) result out.new }
 {
     let code = numbers::lesser(code, Opening::UNTIL) as u64;
     let line = numbers::lesser(line, Opening::UNTIL) as u64;

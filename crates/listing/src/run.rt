@@ -1,48 +1,39 @@
 // The run of a schedule, in place: one table of nodes and one of records, stored into.
-ghost use mathlib.Core.Path.{_≡_};
-ghost use mathlib.Core.Bool.{true, cond};
-ghost use Prim.Native.Nat.{_+_, _≤_};
-ghost use lib.ListN.{length, take, replicate};
-ghost use Rattle·rules.specs.Limits.{maxTeams, maxNodes};
-ghost use Rattle·ledger.specs.Table.{viewBy};
-ghost use Rattle·rules.specs.WellFormed.{wellFormed};
-ghost use Rattle·steps.specs.Records.{programOf, freshTeam, isStopped, remembering};
-ghost use Rattle·steps.specs.Step.{slotOf};
-ghost use Rattle·steps.specs.Run.{stoppedTo};
-ghost use Rattle·line_rules.specs.Line.{text};
-ghost use Rattle·digits.specs.Area.{Put};
-ghost use Rattle·listing_rules.specs.Steps.{runWith, lastLine, runLines};
-ghost use Rattle·listing_rules.specs.Listing.{bytesOf};
-ghost use Rattle·listing_rules.specs.Lent.{roomFor};
-ghost use Rattle·listing·specs.specs.Table.{Runnable};
+ghost use Rattle.std.specs.Prelude.{◌≡◌, true, cond, ◌+◌, ◌≤◌, length, take, replicate};
+ghost use Rattle.rules.specs.Limits.{max_teams, max_nodes};
+ghost use Rattle.ledger.specs.Table.{view_by};
+ghost use Rattle.rules.specs.WellFormed.{well_formed};
+ghost use Rattle.steps.specs.Records.{program_of, fresh_team, is_stopped, remembering};
+ghost use Rattle.steps.specs.Step.{slot_of};
+ghost use Rattle.steps.specs.Run.{stopped_to};
+ghost use Rattle.line_rules.specs.Line.{text};
+ghost use Rattle.digits.specs.Area.{Put};
+ghost use Rattle.listing_rules.specs.Steps.{run_with, last_line, run_lines};
+ghost use Rattle.listing_rules.specs.Listing.{bytes_of};
+ghost use Rattle.listing_rules.specs.Lent.{room_for};
+ghost use Rattle.listing.specs.Table.{Runnable};
+
 use crate::notes;
 use ledger::table;
-use rules::Change;
-use rules::Ledger;
-use rules::Node;
-use rules::Opening;
-use rules::View;
-use steps::Memory;
-use steps::Place;
-use steps::Program;
-use steps::Team;
+use rules::{Change, Ledger, Node, Opening, View};
+use steps::{Memory, Place, Program, Team};
 
 fn fresh_teams(program: u32) -> [Team; Team::RECORDS]
-    ensures { λ r. ⌜ r ≡ replicate maxTeams (freshTeam (programOf program)) ⌝ }
+    ensures { result ≡ replicate max_teams (fresh_team (program_of program)) }
 {
     let t = Team::fresh(Program::of(program));
     [t; Team::RECORDS]
 }
 
 fn team_slot(number: i32) -> usize
-    ensures { λ r. ⌜ r ≡ slotOf number ⌝ }
+    ensures { result ≡ slot_of number }
 {
     numbers::less_by(numbers::natural(number), 1) as usize
 }
 
 // 1 for a team that has stopped, 0 for any other.
 fn stopped_one(t: Team) -> u32
-    ensures { λ r. ⌜ r ≡ cond (isStopped (t .place)) 1 0 ⌝ }
+    ensures { result ≡ cond (is_stopped t.place) 1 0 }
 {
     let p = t.place;
     match p {
@@ -57,8 +48,8 @@ fn stopped_one(t: Team) -> u32
 }
 
 fn stopped_in(teams: [Team; Team::RECORDS], count: u32) -> u32
-    requires { ⌜ count ≤ maxTeams ⌝ }
-    ensures { λ r. ⌜ r ≡ stoppedTo teams count ⌝ }
+    requires { count ≤ max_teams }
+    ensures { result ≡ stopped_to teams count }
 {
     let mut k: u32 = 0;
     let mut i: u32 = 0;
@@ -73,8 +64,8 @@ fn stopped_in(teams: [Team; Team::RECORDS], count: u32) -> u32
 
 // The left line, after the last step.
 fn last(out: &mut [u8], at: usize, book: Ledger, teams: [Team; Team::RECORDS]) -> usize
-    requires { ⌜ (at + length (text (lastLine (runWith book teams))) ≤ length (now out)) × (wellFormed book ≡ true) × (book .teams ≤ maxTeams) ⌝ }
-    ensures { λ r. ⌜ Put (now (out .entry)) at (text (lastLine (runWith book teams))) r (now (out .exit)) ⌝ }
+    requires { (at + length (text (last_line (run_with book teams))) ≤ length out.old) × (well_formed book ≡ true) × (book.teams ≤ max_teams) }
+    ensures { Put out.old at (text (last_line (run_with book teams))) result out.new }
 {
     let unclaimed = ledger::count(book);
     let stopped = stopped_in(teams, book.teams);
@@ -84,8 +75,8 @@ fn last(out: &mut [u8], at: usize, book: Ledger, teams: [Team; Team::RECORDS]) -
 // The view of a node in a table with so many slots used, all of them in use: a run folds nothing, so no pair is ever free, and a split would
 // take the pair that follows them. Nothing is searched or counted.
 fn view_of(teams: u32, room: u32, used: u32, stolen: u32, node: Node) -> View
-    requires { ⌜ used ≤ maxNodes ⌝ }
-    ensures { λ r. ⌜ r ≡ viewBy teams room used used stolen (used + 1) node ⌝ }
+    requires { used ≤ max_nodes }
+    ensures { result ≡ view_by teams room used used stolen (used + 1) node }
 {
     table::view_by(teams, room, used, used, stolen, used + 1, node)
 }
@@ -93,7 +84,7 @@ fn view_of(teams: u32, room: u32, used: u32, stolen: u32, node: Node) -> View
 // The record after a move, to be stored with this memory. Made anew field by field, it has nothing between its fields that a store would
 // have to copy; and of `Memory::Nothing` a store writes the tag alone.
 fn with_memory(moved: Team, memory: Memory) -> Team
-    ensures { λ r. ⌜ r ≡ remembering moved memory ⌝ }
+    ensures { result ≡ remembering moved memory }
 {
     let place = moved.place;
     let side = moved.side;
@@ -114,8 +105,8 @@ fn with_memory(moved: Team, memory: Memory) -> Team
 // A step writes little more than it changes. A record of the scan never remembers anything, so no memory is carried along for it. A node that
 // moves on is read again right before it is stored: its other fields are then seen to stay as they are, and its progress alone is written.
 pub(crate) fn run(schedule: &[i32], count: usize, o: Opening, program: u32, out: &mut [u8]) -> usize
-    requires { ⌜ Runnable o program count (now schedule) × (roomFor count ≤ length (now out)) ⌝ }
-    ensures { λ r. ⌜ Put (now (out .entry)) 0 (bytesOf (runLines o program (take count (now (schedule .entry))))) r (now (out .exit)) ⌝ }
+    requires { Runnable o program count schedule.now × (room_for count ≤ length out.old) }
+    ensures { Put out.old 0 (bytes_of (run_lines o program (take count schedule.now))) result out.new }
 {
     let cap = numbers::natural(o.cap);
     let opened = ledger::open(o);

@@ -1,36 +1,32 @@
 -- The listing of a text: the whole program as a definition.
-use Prim.Native.Nat.{ℕ}
-use mathlib.Core.Bool.{cond}
-use mathlib.Core.List.{List, [], _∷_, _++_, map}
-use lib.Dec.{eqb}
-use lib.IntN.{ℤ}
-use Rattle·numbers.specs.Progress.{signed}
-use Rattle·text_rules.specs.declared.Schedule.{Schedule}
-use Rattle·text_rules.specs.Marks.{marks}
-use Rattle·text_rules.specs.Judgement.{scheduleNumbers}
-use Rattle·text_rules.specs.Answers.{scheduleOf}
-use Rattle·text_rules.specs.Demands.{scheduleRoom}
-use Rattle·line_rules.specs.Line.{Line, refusedLine, text}
-use Rattle·listing_rules·specs.specs.Steps.{runLines}
+use Rattle.std.specs.Prelude.{ℕ, cond, List, [], ◌∷◌, ◌++◌, map, eqb, ℤ}
+use Rattle.numbers.specs.Progress.{signed}
+use Rattle.text_rules.specs.declared.Schedule.{Schedule}
+use Rattle.text_rules.specs.Marks.{marks}
+use Rattle.text_rules.specs.Judgement.{schedule_numbers}
+use Rattle.text_rules.specs.Answers.{schedule_of}
+use Rattle.text_rules.specs.Demands.{schedule_room}
+use Rattle.line_rules.specs.Line.{Line, refused_line, text}
+use Rattle.listing_rules.specs.Steps.{run_lines}
 
 -- the team numbers of a text, in their order
-abbrev pub teamsIn : List ℕ → List ℤ
-teamsIn bytes = map signed (scheduleNumbers (marks bytes))
+abbrev pub teams_in : List ℕ → List ℤ
+teams_in bytes = map signed (schedule_numbers (marks bytes))
 
 -- "A refused text prints only `refused CODE LINE`."
-abbrev pub linesBy : Schedule → List ℤ → List Line
-linesBy s schedule =
-    cond (eqb (s .code) 0) (runLines (s .opening) (s .program) schedule) (refusedLine (signed (s .code)) (signed (s .line)) ∷ [])
+abbrev pub lines_by : Schedule → List ℤ → List Line
+lines_by s schedule =
+    cond (eqb s.code 0) (run_lines s.opening s.program schedule) (refused_line (signed s.code) (signed s.line) ∷ [])
 
 -- "The whole text is judged before the first step": the lines of a text, with room for so many schedule numbers
-unfoldable pub linesOf : ℕ → List ℕ → List Line
-linesOf steps bytes = linesBy (scheduleOf steps bytes) (teamsIn bytes)
+unfoldable pub lines_of : ℕ → List ℕ → List Line
+lines_of steps bytes = lines_by (schedule_of steps bytes) (teams_in bytes)
 
 -- one line after the other
-unfoldable pub bytesOf : List Line → List ℕ
-bytesOf [] = []
-bytesOf (l ∷ ls) = text l ++ bytesOf ls
+unfoldable pub bytes_of : List Line → List ℕ
+bytes_of [] = []
+bytes_of (l ∷ ls) = text l ++ bytes_of ls
 
 -- what `sheets` prints
-unfoldable pub listingOf : List ℕ → List ℕ
-listingOf bytes = bytesOf (linesOf scheduleRoom bytes)
+unfoldable pub listing_of : List ℕ → List ℕ
+listing_of bytes = bytes_of (lines_of schedule_room bytes)

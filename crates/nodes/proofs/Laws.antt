@@ -1,39 +1,39 @@
 -- What the code on a node needs of the definitions, over plain variables.
-use mathlib.Core.Path.{_≡_, sym, ap, _∙_}
+use mathlib.Core.Path.{◌≡◌, sym, ap, ◌∙◌}
 use mathlib.Core.Bool.{Bool, true, false, cond, and-false, false-and}
-use Prim.Native.Nat.{ℕ, _≤_, _<_, _^_}
+use Prim.Native.Nat.{ℕ, ◌≤◌, ◌<◌, ◌^◌}
 use native.Mathlib.Omega.{arith}
 use lib.IntN.{ℤ, pos, negsuc}
 use lib.Signed.{mag}
-use borrow.Author.Tests.{ne-eqb}
+use borrow.Author.Tests.{ne_eqb}
 use mir.Syntax.{w32}
-use mir.Val.{hbits, toZ, ofZ}
-use Rattle·numbers.specs.Fields.{natOf}
-use Rattle·numbers.specs.Progress.{position}
-use Rattle·numbers.proofs.Signed.{told}
-use Rattle·rules.specs.declared.Node.{Node}
-use Rattle·rules.specs.Nodes.{isBlank}
+use mir.Val.{hbits, to_z, of_z}
+use Rattle.numbers.specs.Fields.{nat_of}
+use Rattle.numbers.specs.Progress.{position}
+use Rattle.numbers.proofs.Signed.{told}
+use Rattle.rules.specs.declared.Node.{Node}
+use Rattle.rules.specs.Nodes.{is_blank}
 
 -- a signed field that was tested
-pub natural-small : (z : ℤ) → mag z < 2 ^ hbits w32 → natOf z ≤ 2147483647
-natural-small (pos n) h = omega arith
-natural-small (negsuc n) h = omega arith
+pub natural_small : (z : ℤ) → mag z < 2 ^ hbits w32 → nat_of z ≤ 2147483647
+natural_small (pos n) h = omega arith
+natural_small (negsuc n) h = omega arith
 
-pub position-small : (z : ℤ) → mag z < 2 ^ hbits w32 → position z ≤ 2147483647
-position-small (pos n) h = omega arith
-position-small (negsuc n) h = omega arith
+pub position_small : (z : ℤ) → mag z < 2 ^ hbits w32 → position z ≤ 2147483647
+position_small (pos n) h = omega arith
+position_small (negsuc n) h = omega arith
 
 -- a signed field as it was read, and then converted
-pub natural-held : (z : ℤ) (k : ℕ) → mag z < 2 ^ hbits w32 → k ≡ natOf (toZ w32 (ofZ w32 z)) → natOf z ≡ k
-natural-held z k h e = sym (e ∙ ap natOf (told z h))
+pub natural_held : (z : ℤ) (k : ℕ) → mag z < 2 ^ hbits w32 → k ≡ nat_of (to_z w32 (of_z w32 z)) → nat_of z ≡ k
+natural_held z k h e = sym (e ∙ ap nat_of (told z h))
 
 -- a choice that was made
 pub chosen : {A : Type 0} (b : Bool) (x y z : A) → b ≡ true → z ≡ x → z ≡ cond b x y
 chosen b x y z e h = rw e h
 
-pub passed-by : {A : Type 0} (b : Bool) (x y z : A) → b ≡ false → z ≡ y → z ≡ cond b x y
-passed-by b x y z e h = rw e h
+pub passed_by : {A : Type 0} (b : Bool) (x y z : A) → b ≡ false → z ≡ y → z ≡ cond b x y
+passed_by b x y z e h = rw e h
 
 -- a node that ends after 0 is not all 0
-pub ends-after : (x : Node) → (x .until ≡ 0 → ⊥) → false ≡ isBlank x
-ends-after x ne = sym (simp (ne-eqb (x .until) 0 ne, and-false, false-and))
+pub ends_after : (x : Node) → (x.until ≡ 0 → ⊥) → false ≡ is_blank x
+ends_after x ne = sym (simp (ne_eqb x.until 0 ne, and-false, false-and))

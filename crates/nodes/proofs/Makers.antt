@@ -1,54 +1,54 @@
 -- Within the limits the makers are the rules' own.
-use mathlib.Core.Path.{_≡_, refl, sym, ap, subst, _∙_}
+use mathlib.Core.Path.{◌≡◌, refl, sym, ap, subst, ◌∙◌}
 use mathlib.Core.Bool.{Bool, true, false, cond}
-use mathlib.Core.List.{[], _∷_}
-use Prim.Native.Nat.{ℕ, _≤_}
+use mathlib.Core.List.{[], ◌∷◌}
+use Prim.Native.Nat.{ℕ, ◌≤◌}
 use lib.Dec.{ltb}
 use lib.IntN.{ℤ}
-use Rattle·numbers.specs.Progress.{mark}
-use Rattle·numbers.proofs.Laws.{signed-is}
-use Rattle·rules.specs.declared.Finds.{Finds}
-use Rattle·rules.specs.declared.Node.{Node}
-use Rattle·rules.specs.Joining.{none, maxCount, joinAll}
-use Rattle·rules.specs.Nodes.{makeNode, stageFor, moved, pushed, childless, middle, rightPart, joinedOf}
-use Rattle·rules.specs.States.{overfull}
-use Rattle·finds.specs.Held.{mostHeld}
-use Rattle·finds.proofs.Held.{join-within, none-after}
-use Rattle·nodes·specs.specs.Makers.{heldRight, partOf, heldPushed, FreshWithin, AdvancedWithin, MarkedWithin, RightWithin, JoinedInParts, PushedWithin, FoldedWithin}
+use Rattle.numbers.specs.Progress.{mark}
+use Rattle.numbers.proofs.Laws.{signed_is}
+use Rattle.rules.specs.declared.Finds.{Finds}
+use Rattle.rules.specs.declared.Node.{Node}
+use Rattle.rules.specs.Joining.{none, max_count, join_all}
+use Rattle.rules.specs.Nodes.{make_node, stage_for, moved, pushed, childless, middle, right_part, joined_of}
+use Rattle.rules.specs.States.{overfull}
+use Rattle.finds.specs.Held.{most_held}
+use Rattle.finds.proofs.Held.{join_within, none_after}
+use Rattle.nodes.specs.Makers.{held_right, part_of, held_pushed, FreshWithin, AdvancedWithin, MarkedWithin, RightWithin, JoinedInParts, PushedWithin, FoldedWithin}
 
-pub fresh-within : FreshWithin
-fresh-within a b small = ap (λ (p : ℤ). makeNode a b p 0 0 none none (stageFor a b)) (signed-is a small)
+pub fresh_within : FreshWithin
+fresh_within a b small = ap (λ (p : ℤ). make_node a b p 0 0 none none (stage_for a b)) (signed_is a small)
 
-pub advanced-within : AdvancedWithin
-advanced-within x p small = ap (λ (z : ℤ). moved x z) (signed-is p small)
+pub advanced_within : AdvancedWithin
+advanced_within x p small = ap (λ (z : ℤ). moved x z) (signed_is p small)
 
-pub marked-within : MarkedWithin
-marked-within x p small = ap (λ (z : ℤ). moved x (mark z)) (signed-is p small)
+pub marked_within : MarkedWithin
+marked_within x p small = ap (λ (z : ℤ). moved x (mark z)) (signed_is p small)
 
-pub right-within : RightWithin
-unfolding heldRight rightPart
-right-within x small = fresh-within (middle x) (x .until) small
+pub right_within : RightWithin
+unfolding held_right right_part
+right_within x small = fresh_within (middle x) x.until small
 
 -- with children or without
-in-parts : (t : Bool) (own a b : Finds) → joinAll (cond t (own ∷ []) (own ∷ a ∷ b ∷ [])) ≡ joinAll (own ∷ cond t none a ∷ cond t none b ∷ [])
-in-parts true own a b = sym (none-after own)
-in-parts false own a b = refl
+in_parts : (t : Bool) (own a b : Finds) → join_all (cond t (own ∷ []) (own ∷ a ∷ b ∷ [])) ≡ join_all (own ∷ cond t none a ∷ cond t none b ∷ [])
+in_parts true own a b = sym (none_after own)
+in_parts false own a b = refl
 
-pub joined-in-parts : JoinedInParts
-unfolding joinedOf partOf
-joined-in-parts x a b = in-parts (childless x) (x .own) (a .joined) (b .joined)
+pub joined_in_parts : JoinedInParts
+unfolding joined_of part_of
+joined_in_parts x a b = in_parts (childless x) x.own a.joined b.joined
 
-pub pushed-within : PushedWithin
-unfolding heldPushed
-pushed-within x a b small =
-    let small : joinAll (x .own ∷ partOf x a ∷ partOf x b ∷ []) .count ≤ mostHeld = subst (λ (f : Finds). f .count ≤ mostHeld) (joined-in-parts x a b) small in
-    ap (λ (f : Finds). pushed x f) (join-within (x .own) (partOf x a) (partOf x b) small ∙ sym (joined-in-parts x a b))
+pub pushed_within : PushedWithin
+unfolding held_pushed
+pushed_within x a b small =
+    let small : (join_all (x.own ∷ part_of x a ∷ part_of x b ∷ [])).count ≤ most_held = subst (λ (f : Finds). f.count ≤ most_held) (joined_in_parts x a b) small in
+    ap (λ (f : Finds). pushed x f) (join_within x.own (part_of x a) (part_of x b) small ∙ sym (joined_in_parts x a b))
 
-pub folded-within : FoldedWithin
-folded-within x small =
-    ap (λ (p : ℤ). makeNode (x .start) (x .until) p (x .owner) 0 (x .own) (x .joined) (x .stage)) (signed-is (x .until) small)
+pub folded_within : FoldedWithin
+folded_within x small =
+    ap (λ (p : ℤ). make_node x.start x.until p x.owner 0 x.own x.joined x.stage) (signed_is x.until small)
 
 -- past the limit, by the three parts
-pub over-in-parts : (x a b : Node) → ltb maxCount (joinAll (x .own ∷ partOf x a ∷ partOf x b ∷ []) .count) ≡ overfull x a b
+pub over_in_parts : (x a b : Node) → ltb max_count (join_all (x.own ∷ part_of x a ∷ part_of x b ∷ [])).count ≡ overfull x a b
 unfolding overfull
-over-in-parts x a b = sym (ap (λ (f : Finds). ltb maxCount (f .count)) (joined-in-parts x a b))
+over_in_parts x a b = sym (ap (λ (f : Finds). ltb max_count f.count) (joined_in_parts x a b))

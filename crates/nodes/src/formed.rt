@@ -1,12 +1,12 @@
 // The rules of well formed on one node, on a node with its children and on an unused slot. Each is total: a node may hold any numbers.
-ghost use mathlib.Core.Path.{_≡_};
-ghost use Rattle·rules.specs.Nodes.{isBlank};
-ghost use Rattle·rules.specs.WellFormed.{aloneRule, rangesRule, childRule, filledRule, joinRule, pushedRule, stageRule};
-use rules::Finds;
-use rules::Node;
+ghost use Rattle.std.specs.Prelude.{◌≡◌};
+ghost use Rattle.rules.specs.Nodes.{is_blank};
+ghost use Rattle.rules.specs.WellFormed.{alone_rule, ranges_rule, child_rule, filled_rule, join_rule, pushed_rule, stage_rule};
+
+use rules::{Finds, Node};
 
 pub fn alone_ok(teams: u32, x: Node) -> bool
-    ensures { λ r. ⌜ r ≡ aloneRule teams x ⌝ }
+    ensures { result ≡ alone_rule teams x }
 {
     let p = crate::position_of(x);
     let marked = crate::is_marked(x);
@@ -18,7 +18,7 @@ pub fn alone_ok(teams: u32, x: Node) -> bool
 }
 
 fn ranges_ok(x: Node, a: Node, b: Node) -> bool
-    ensures { λ r. ⌜ r ≡ rangesRule x a b ⌝ }
+    ensures { result ≡ ranges_rule x a b }
 {
     let p = crate::position_of(x);
     let m = crate::middle_of(x);
@@ -26,7 +26,7 @@ fn ranges_ok(x: Node, a: Node, b: Node) -> bool
 }
 
 pub fn child_ok(used: u32, x: Node, a: Node, b: Node) -> bool
-    ensures { λ r. ⌜ r ≡ childRule used x a b ⌝ }
+    ensures { result ≡ child_rule used x a b }
 {
     let marked = crate::is_marked(x);
     let left = (x.left % 2 == 0) & (x.left < used);
@@ -36,7 +36,7 @@ pub fn child_ok(used: u32, x: Node, a: Node, b: Node) -> bool
 
 // Of a COMPLETED node that is not empty: what was folded into it is no more, so its joined count has only limits.
 fn filled_ok(x: Node) -> bool
-    ensures { λ r. ⌜ r ≡ filledRule x ⌝ }
+    ensures { result ≡ filled_rule x }
 {
     let own = x.own;
     let joined = x.joined;
@@ -46,7 +46,7 @@ fn filled_ok(x: Node) -> bool
 
 // Of any other: what is joined is the join, which is not past its limit.
 fn join_ok(x: Node, a: Node, b: Node) -> bool
-    ensures { λ r. ⌜ r ≡ joinRule x a b ⌝ }
+    ensures { result ≡ join_rule x a b }
 {
     let left = crate::part_of(x, a);
     let right = crate::part_of(x, b);
@@ -55,7 +55,7 @@ fn join_ok(x: Node, a: Node, b: Node) -> bool
 }
 
 fn pushed_ok(x: Node, a: Node, b: Node) -> bool
-    ensures { λ r. ⌜ r ≡ pushedRule x a b ⌝ }
+    ensures { result ≡ pushed_rule x a b }
 {
     let filled = filled_ok(x);
     let joined = join_ok(x, a, b);
@@ -65,7 +65,7 @@ fn pushed_ok(x: Node, a: Node, b: Node) -> bool
 
 // The rules of a node's report.
 pub fn stage_ok(x: Node, a: Node, b: Node) -> bool
-    ensures { λ r. ⌜ r ≡ stageRule x a b ⌝ }
+    ensures { result ≡ stage_rule x a b }
 {
     let own = finds::is_none(x.own);
     let joined = finds::is_none(x.joined);
@@ -79,7 +79,7 @@ pub fn stage_ok(x: Node, a: Node, b: Node) -> bool
 
 // Whether all fields are 0, each of them tested.
 fn zeros_ok(x: Node) -> bool
-    ensures { λ r. ⌜ r ≡ isBlank x ⌝ }
+    ensures { result ≡ is_blank x }
 {
     let still = numbers::is_number(x.progress, 0);
     let alone = (x.start == 0) & (x.until == 0) & still & (x.owner == 0) & (x.left == 0);
@@ -90,7 +90,7 @@ fn zeros_ok(x: Node) -> bool
 
 // Whether a slot is all 0. Nearly every node ends after 0, and costs one comparison.
 pub fn blank_ok(x: Node) -> bool
-    ensures { λ r. ⌜ r ≡ isBlank x ⌝ }
+    ensures { result ≡ is_blank x }
 {
     if x.until == 0 { zeros_ok(x) } else { false }
 }

@@ -1,8 +1,6 @@
 -- A progress: a signed number that is a position, or the mark of one. "A stolen position p becomes −p−1."
 -- A signed number is `pos n`, which is n, or `negsuc n`, which is −n−1.
-use Prim.Native.Nat.{ℕ, min}
-use mathlib.Core.Bool.{Bool, true, false}
-use lib.IntN.{ℤ, pos, negsuc}
+use Rattle.std.specs.Prelude.{ℕ, min, Bool, true, false, ℤ, pos, negsuc}
 
 abbrev pub negative : ℤ → Bool
 negative (pos n) = false

@@ -1,27 +1,27 @@
 -- Codes are small: each fits a signed number, and so is told to C as it is.
-use mathlib.Core.Path.{_≡_, refl, ap}
-use mathlib.Core.Bool.{Bool, true, false, not, cond, _&&_}
-use mathlib.Core.List.{List, [], _∷_}
-use Prim.Native.Nat.{ℕ, _≤_}
+use mathlib.Core.Path.{◌≡◌, refl, ap}
+use mathlib.Core.Bool.{Bool, true, false, not, cond, ◌&&◌}
+use mathlib.Core.List.{List, [], ◌∷◌}
+use Prim.Native.Nat.{ℕ, ◌≤◌}
 use native.Mathlib.Omega.{arith}
 use lib.Dec.{leb, eqb}
 use lib.IntN.{pos}
 use borrow.Author.Tests.{leb-true}
-use Rattle·numbers.specs.Fields.{natOf}
-use Rattle·numbers.specs.Progress.{signed}
-use Rattle·numbers.proofs.Laws.{signed-is}
-use Rattle·rules.specs.declared.Outcome.{Outcome}
-use Rattle·rules.specs.declared.Request.{Request}
-use Rattle·rules.specs.declared.View.{View}
-use Rattle·rules.specs.declared.Change.the-variants.{Keep}
-use Rattle·rules.specs.Asks.{byKind}
-use Rattle·rules.specs.Refusals.{allTests, ownTests, advanceTests, markTests, expandTests, reportTests, pushTests, foldTests, ownCode, advanceCode, markCode, expandCode, reportCode, pushCode, foldCode, kindCode, refusal}
-use Rattle·rules.specs.Requests.{outcome, refusing, owning, advancing, marking, expanding, looking, reporting, pushing, folding, granted, decided}
-use Rattle·rules.specs.Tests.{Test, first}
-use Rattle·rules.specs.WellFormed.{wellFormed}
-use Rattle·rules.proofs.Facts.{both}
-use Rattle·layout.specs.Areas.{decoded, tooShort}
-use Rattle·office_forms.specs.Codes.{formedCode}
+use Rattle.numbers.specs.Fields.{nat_of}
+use Rattle.numbers.specs.Progress.{signed}
+use Rattle.numbers.proofs.Laws.{signed_is}
+use Rattle.rules.specs.declared.Outcome.{Outcome}
+use Rattle.rules.specs.declared.Request.{Request}
+use Rattle.rules.specs.declared.View.{View}
+use Rattle.rules.specs.declared.Change.TheVariants.{Keep}
+use Rattle.rules.specs.Asks.{by_kind}
+use Rattle.rules.specs.Refusals.{all_tests, own_tests, advance_tests, mark_tests, expand_tests, report_tests, push_tests, fold_tests, own_code, advance_code, mark_code, expand_code, report_code, push_code, fold_code, kind_code, refusal}
+use Rattle.rules.specs.Requests.{outcome, refusing, owning, advancing, marking, expanding, looking, reporting, pushing, folding, granted, decided}
+use Rattle.rules.specs.Tests.{Test, first}
+use Rattle.rules.specs.WellFormed.{well_formed}
+use Rattle.rules.proofs.Facts.{both}
+use Rattle.layout.specs.Areas.{decoded, too_short}
+use Rattle.office_forms.specs.Codes.{formed_code}
 
 -- the largest code that a request is refused with
 abbrev pub most : ℕ
@@ -34,17 +34,17 @@ few false m n p q = q
 -- each code of a list of tests, computed
 abbrev smalls : List Test → Bool
 smalls [] = true
-smalls (t ∷ ts) = leb (t .code) most && smalls ts
+smalls (t ∷ ts) = leb t.code most && smalls ts
 
-small-first : (ts : List Test) (after : ℕ) → smalls ts ≡ true → after ≤ most → first ts after ≤ most
-small-first [] after s h = h
-small-first (t ∷ ts) after s h =
-    let b = both (leb (t .code) most) (smalls ts) .0 s in
-    few (t .holds) (t .code) (first ts after) (leb-true (t .code) most (b .0)) (small-first ts after (b .1) h)
+small_first : (ts : List Test) (after : ℕ) → smalls ts ≡ true → after ≤ most → first ts after ≤ most
+small_first [] after s h = h
+small_first (t ∷ ts) after s h =
+    let b = (both (leb t.code most) (smalls ts)).0 s in
+    few t.holds t.code (first ts after) (leb-true t.code most b.0) (small_first ts after b.1 h)
 
 -- one case for each kind
-by-kind : {A : Type 0} (P : A → Type 0) (k : ℕ) (a b c d e f g h : A) → P a → P b → P c → P d → P e → P f → P g → P h → P (byKind k a b c d e f g h)
-by-kind P k a b c d e f g h pa pb pc pd pe pf pg ph = go (eqb k 1) (eqb k 2) (eqb k 3) (eqb k 4) (eqb k 5) (eqb k 6) (eqb k 7)
+by_kind_lem : {A : Type 0} (P : A → Type 0) (k : ℕ) (a b c d e f g h : A) → P a → P b → P c → P d → P e → P f → P g → P h → P (by_kind k a b c d e f g h)
+by_kind_lem P k a b c d e f g h pa pb pc pd pe pf pg ph = go (eqb k 1) (eqb k 2) (eqb k 3) (eqb k 4) (eqb k 5) (eqb k 6) (eqb k 7)
   where
     go : (s t u v w x y : Bool) → P (cond s a (cond t b (cond u c (cond v d (cond w e (cond x f (cond y g h)))))))
     go true t u v w x y = pa
@@ -57,13 +57,13 @@ by-kind P k a b c d e f g h pa pb pc pd pe pf pg ph = go (eqb k 1) (eqb k 2) (eq
     go false false false false false false false = ph
 
 module _ (v : View) (r : Request) where
-  small-kind : kindCode v r ≤ most
-  unfolding kindCode ownCode advanceCode markCode expandCode reportCode pushCode foldCode
-  small-kind =
+  small_kind : kind_code v r ≤ most
+  unfolding kind_code own_code advance_code mark_code expand_code report_code push_code fold_code
+  small_kind =
       let z : 0 ≤ most = omega arith in
-      by-kind
+      by_kind_lem
       (λ (n : ℕ). n ≤ most)
-      (natOf (r .kind))
+      (nat_of r.kind)
       _
       _
       _
@@ -72,45 +72,45 @@ module _ (v : View) (r : Request) where
       _
       _
       _
-      (small-first (ownTests (v .node)) 0 refl z)
-      (small-first (advanceTests (v .node) r) 0 refl z)
-      (small-first (markTests v r) 0 refl z)
-      (small-first (expandTests (v .node)) 0 refl z)
+      (small_first (own_tests v.node) 0 refl z)
+      (small_first (advance_tests v.node r) 0 refl z)
+      (small_first (mark_tests v r) 0 refl z)
+      (small_first (expand_tests v.node) 0 refl z)
       z
-      (small-first (reportTests (v .node) r) 0 refl z)
-      (small-first (pushTests v) 0 refl z)
-      (small-first (foldTests v) 0 refl z)
+      (small_first (report_tests v.node r) 0 refl z)
+      (small_first (push_tests v) 0 refl z)
+      (small_first (fold_tests v) 0 refl z)
 
-  small-refusal : refusal v r ≤ most
+  small_refusal : refusal v r ≤ most
   unfolding refusal
-  small-refusal = small-first (allTests v r) (kindCode v r) refl small-kind
+  small_refusal = small_first (all_tests v r) (kind_code v r) refl small_kind
 
-  granted-zero : granted v r .answer .code ≡ 0
+  granted_zero : (granted v r).answer.code ≡ 0
   unfolding granted owning advancing marking expanding looking reporting pushing folding
-  granted-zero = by-kind (λ (o : Outcome). o .answer .code ≡ 0) (natOf (r .kind)) _ _ _ _ _ _ _ _ refl refl refl refl refl refl refl refl
+  granted_zero = by_kind_lem (λ (o : Outcome). o.answer.code ≡ 0) (nat_of r.kind) _ _ _ _ _ _ _ _ refl refl refl refl refl refl refl refl
 
-  pub small-code : decided v r .answer .code ≤ most
+  pub small_code : (decided v r).answer.code ≤ most
   unfolding decided
-  small-code = go (eqb (refusal v r) 0)
+  small_code = go (eqb (refusal v r) 0)
     where
-      go : (b : Bool) → cond b (granted v r) (outcome (refusing v (refusal v r)) Keep) .answer .code ≤ most
-      go true = omega (arith, granted-zero)
-      go false = small-refusal
+      go : (b : Bool) → (cond b (granted v r) (outcome (refusing v (refusal v r)) Keep)).answer.code ≤ most
+      go true = omega (arith, granted_zero)
+      go false = small_refusal
 
-pub as-number : (n : ℕ) → n ≤ most → signed n ≡ pos n
-as-number n h = signed-is n (omega arith)
+pub as_number : (n : ℕ) → n ≤ most → signed n ≡ pos n
+as_number n h = signed_is n (omega arith)
 
 -- what an area is refused with
 pub data Formed (bs : List ℕ) : Type 0 where
-  passes : formedCode bs ≡ 0 → wellFormed (decoded bs) ≡ true → tooShort bs ≡ false → Formed bs
-  broken : formedCode bs ≡ 1 → wellFormed (decoded bs) ≡ false → tooShort bs ≡ false → Formed bs
-  short : formedCode bs ≡ 37 → tooShort bs ≡ true → Formed bs
+  passes : formed_code bs ≡ 0 → well_formed (decoded bs) ≡ true → too_short bs ≡ false → Formed bs
+  broken : formed_code bs ≡ 1 → well_formed (decoded bs) ≡ false → too_short bs ≡ false → Formed bs
+  short : formed_code bs ≡ 37 → too_short bs ≡ true → Formed bs
 
 pub formed : (bs : List ℕ) → Formed bs
-unfolding formedCode
-formed bs = go (tooShort bs) (wellFormed (decoded bs)) refl refl
+unfolding formed_code
+formed bs = go (too_short bs) (well_formed (decoded bs)) refl refl
   where
-    go : (s w : Bool) → tooShort bs ≡ s → wellFormed (decoded bs) ≡ w → Formed bs
+    go : (s w : Bool) → too_short bs ≡ s → well_formed (decoded bs) ≡ w → Formed bs
     go true w p q = short (rw p) p
     go false true p q = passes (rw (p, q)) q p
     go false false p q = broken (rw (p, q)) q p

@@ -1,18 +1,16 @@
 // The ledger on bytes, for a program in C: three calls, each exactly as the definitions of specs/ say, on every input. What a request decides
 // is `requests::decide`, over the view that is read off the bytes. No call keeps anything of its own.
-ghost use mathlib.Core.Path.{_≡_};
-ghost use lib.IntN.{pos};
-ghost use lib.ListN.{length};
-ghost use Rattle·rules.specs.Asks.{request};
-ghost use Rattle·office_forms.specs.Codes.{formedCode};
-ghost use Rattle·office·specs.specs.Calls.{codeOf, areaAfter, answerAfter, countOf, openingOf, openCode, openArea};
-use rules::Opening;
-use rules::Request;
+ghost use Rattle.std.specs.Prelude.{◌≡◌, pos, length};
+ghost use Rattle.rules.specs.Asks.{request};
+ghost use Rattle.office_forms.specs.Codes.{formed_code};
+ghost use Rattle.office.specs.Calls.{code_of, area_after, answer_after, count_of, opening_of, open_code, open_area};
+
+use rules::{Opening, Request};
 
 mod opens;
 
 // Opens a ledger in the area. Refused by 20 or 37, the area stays.
-#[no_mangle]
+#[unsafe(no_mangle)]
 pub extern "C" fn yol_open(
     ledger: &mut [u8],
     start: i32,
@@ -21,8 +19,8 @@ pub extern "C" fn yol_open(
     cap: i32,
     nodes: i32,
 ) -> i32
-    ensures code { λ r. ⌜ r ≡ pos (openCode (now (ledger .entry)) (openingOf start until teams cap nodes)) ⌝ }
-    ensures area { λ _. ⌜ now (ledger .exit) ≡ openArea (now (ledger .entry)) (openingOf start until teams cap nodes) ⌝ }
+    ensures code { result ≡ pos (open_code ledger.old (opening_of start until teams cap nodes)) }
+    ensures area { ledger.new ≡ open_area ledger.old (opening_of start until teams cap nodes) }
 {
     let o = Opening {
         start: start,
@@ -46,7 +44,7 @@ pub extern "C" fn yol_open(
 }
 
 // One request: returns its code, changes the area as it was granted, and at 0 and 16 writes the answer.
-#[no_mangle]
+#[unsafe(no_mangle)]
 pub extern "C" fn yol_request(
     ledger: &mut [u8],
     answer: &mut [u8],
@@ -59,9 +57,9 @@ pub extern "C" fn yol_request(
     first: i32,
     last: i32,
 ) -> i32
-    ensures code { λ r. ⌜ r ≡ pos (codeOf (now (ledger .entry)) (length (now (answer .entry))) (request kind team node position amount count first last)) ⌝ }
-    ensures area { λ _. ⌜ now (ledger .exit) ≡ areaAfter (now (ledger .entry)) (length (now (answer .entry))) (request kind team node position amount count first last) ⌝ }
-    ensures out { λ _. ⌜ now (answer .exit) ≡ answerAfter (now (ledger .entry)) (now (answer .entry)) (request kind team node position amount count first last) ⌝ }
+    ensures code { result ≡ pos (code_of ledger.old (length answer.old) (request kind team node position amount count first last)) }
+    ensures area { ledger.new ≡ area_after ledger.old (length answer.old) (request kind team node position amount count first last) }
+    ensures out { answer.new ≡ answer_after ledger.old answer.old (request kind team node position amount count first last) }
 {
     if answer.len() < layout::ANSWER {
         return 37;
@@ -87,9 +85,9 @@ pub extern "C" fn yol_request(
 }
 
 // The unclaimed count, or the code of its refusal with a minus.
-#[no_mangle]
+#[unsafe(no_mangle)]
 pub extern "C" fn yol_unclaimed(ledger: &[u8]) -> i32
-    ensures { λ r. ⌜ r ≡ countOf (now (ledger .entry)) ⌝ }
+    ensures { result ≡ count_of ledger.now }
 {
     let j = office_forms::judge(ledger);
     if j.code == 0 {

@@ -1,18 +1,15 @@
 // Writes a new ledger over an area that is long enough for it.
-ghost use mathlib.Core.Path.{_≡_};
-ghost use mathlib.Core.List.{_++_};
-ghost use Prim.Native.Nat.{_-_, _≤_};
-ghost use lib.ListN.{length, replicate, drop};
-ghost use Rattle·rules.specs.Limits.{maxUntil, maxNodes};
-ghost use Rattle·rules.specs.Opening.{opened};
-ghost use Rattle·layout.specs.Sizes.{areaSize};
-ghost use Rattle·layout.specs.Numbers.{written};
-ghost use Rattle·layout.specs.Areas.{encoded};
+ghost use Rattle.std.specs.Prelude.{◌≡◌, ◌++◌, ◌-◌, ◌≤◌, length, replicate, drop};
+ghost use Rattle.rules.specs.Limits.{max_until, max_nodes};
+ghost use Rattle.rules.specs.Opening.{opened};
+ghost use Rattle.layout.specs.Sizes.{area_size};
+ghost use Rattle.layout.specs.Numbers.{written};
+ghost use Rattle.layout.specs.Areas.{encoded};
 
 // Zeroes the bytes from one place to another.
 fn zero(bytes: &mut [u8], from: usize, to: usize)
-    requires { ⌜ («from» ≤ to) × (to ≤ length (now bytes)) ⌝ }
-    ensures { λ _. ⌜ now (bytes .exit) ≡ written (now (bytes .entry)) «from» (replicate (to - «from») 0) ⌝ }
+    requires { («from» ≤ to) × (to ≤ length bytes.old) }
+    ensures { bytes.new ≡ written bytes.old «from» (replicate (to - «from») 0) }
 {
     let mut i = from;
     while i < to {
@@ -22,8 +19,8 @@ fn zero(bytes: &mut [u8], from: usize, to: usize)
 }
 
 pub(crate) fn put_new(bytes: &mut [u8], start: u32, until: u32, teams: u32, room: u32)
-    requires { ⌜ (start ≤ maxUntil) × (1 ≤ room) × (room ≤ maxNodes) × (areaSize room ≤ length (now bytes)) ⌝ }
-    ensures { λ _. ⌜ now (bytes .exit) ≡ encoded (opened start until teams room) ++ drop (areaSize room) (now (bytes .entry)) ⌝ }
+    requires { (start ≤ max_until) × (1 ≤ room) × (room ≤ max_nodes) × (area_size room ≤ length bytes.old) }
+    ensures { bytes.new ≡ encoded (opened start until teams room) ++ drop (area_size room) bytes.old }
 {
     let root = nodes::fresh_node(start, until);
     let end = layout::HEAD + layout::NODE * (room as usize);

@@ -1,27 +1,27 @@
 -- 37, 1 and 0.
-use mathlib.Core.Path.{_≡_, refl, sym, ap, _∙_}
-use mathlib.Core.Bool.{Bool, true, false, not, cond, _&&_, _||_, true≢false}
+use mathlib.Core.Path.{◌≡◌, refl, sym, ap, ◌∙◌}
+use mathlib.Core.Bool.{Bool, true, false, not, cond, ◌&&◌, ◌||◌, true≢false}
 use mathlib.Core.List.{List}
-use Prim.Native.Nat.{ℕ, _%_, _≤_}
+use Prim.Native.Nat.{ℕ, ◌%◌, ◌≤◌}
 use native.Mathlib.Omega.{arith}
 use lib.Dec.{leb, ltb}
 use lib.ListN.{length, take}
 use borrow.Author.Tests.{le-leb, ltb-false}
-use Rattle·rules.specs.declared.Ledger.{Ledger}
-use Rattle·rules.specs.Limits.{maxNodes, opens}
-use Rattle·rules.specs.Nodes.{usedOf}
-use Rattle·rules.specs.States.{stolenOf}
-use Rattle·rules.specs.Table.{sumBy, stolenIn, takenIn}
-use Rattle·rules.specs.WellFormed.{upTo, numbersRule, rootRange, nodeRule, pairRule, reachRule, roomRule, unusedRule, wellFormed}
-use Rattle·rules.proofs.Facts.{facts, both}
-use Rattle·layout.specs.Sizes.{headSize, areaSize, teamsPlace, roomPlace, usedPlace}
-use Rattle·layout.specs.Numbers.{numberAt}
-use Rattle·layout.specs.Areas.{decoded, tooShort}
-use Rattle·layout.proofs.Slots.{teams-is, room-is, used-is}
-use Rattle·office_forms·specs.specs.declared.Judged.{Judged}
-use Rattle·office_forms·specs.specs.Measured.{Measured, tableRule}
-use Rattle·office_forms·specs.specs.Codes.{formedCode, judgedOf}
-use Rattle·office_forms·proofs.proofs.Whole.{taken-used, stolen-used}
+use Rattle.rules.specs.declared.Ledger.{Ledger}
+use Rattle.rules.specs.Limits.{max_nodes, opens}
+use Rattle.rules.specs.Nodes.{used_of}
+use Rattle.rules.specs.States.{stolen_of}
+use Rattle.rules.specs.Table.{sum_by, stolen_in, taken_in}
+use Rattle.rules.specs.WellFormed.{up_to, numbers_rule, root_range, node_rule, pair_rule, reach_rule, room_rule, unused_rule, well_formed}
+use Rattle.rules.proofs.Facts.{facts, both}
+use Rattle.layout.specs.Sizes.{head_size, area_size, teams_place, room_place, used_place}
+use Rattle.layout.specs.Numbers.{number_at}
+use Rattle.layout.specs.Areas.{decoded, too_short}
+use Rattle.layout.proofs.Slots.{teams_is, room_is, used_is}
+use Rattle.office_forms.specs.declared.Judged.{Judged}
+use Rattle.office_forms.specs.Measured.{Measured, table_rule}
+use Rattle.office_forms.specs.Codes.{formed_code, judged_of}
+use Rattle.office_forms.proofs.Whole.{taken_used, stolen_used}
 
 neither : (a b : Bool) → (a || b) ≡ false → (a ≡ false) × (b ≡ false)
 neither true b e = absurd (true≢false e)
@@ -29,12 +29,12 @@ neither false b e = (refl, e)
 
 -- what the rules of a ledger's numbers tell
 record Told (l : Ledger) : Type 0 where
-  odd : l .used % 2 ≡ 1
-  fits : l .used ≤ l .room
-  low : 1 ≤ l .room
-  high : l .room ≤ maxNodes
+  odd : l.used % 2 ≡ 1
+  fits : l.used ≤ l.room
+  low : 1 ≤ l.room
+  high : l.room ≤ max_nodes
 
-told : (l : Ledger) → numbersRule l ≡ true → Told l
+told : (l : Ledger) → numbers_rule l ≡ true → Told l
 unfolding opens
 told l e =
     let h = simp facts at e in
@@ -45,81 +45,81 @@ judged code taken stolen = record { code = code; taken = taken; stolen = stolen 
 
 -- ---- an area that is long enough
 
-module _ (bs : List ℕ) (long : tooShort bs ≡ false) where
+module _ (bs : List ℕ) (long : too_short bs ≡ false) where
   abbrev room : ℕ
-  room = numberAt bs roomPlace
+  room = number_at bs room_place
 
-  pub head-inside : headSize ≤ length bs
-  unfolding tooShort
-  head-inside = ltb-false (length bs) headSize (neither (ltb (length bs) headSize) _ long .0)
+  pub head_inside : head_size ≤ length bs
+  unfolding too_short
+  head_inside = ltb-false (length bs) head_size (neither (ltb (length bs) head_size) _ long).0
 
-  all-inside : 1 ≤ room → room ≤ maxNodes → areaSize room ≤ length bs
-  unfolding tooShort
-  all-inside low high =
-      let h = neither (ltb (length bs) headSize) (leb 1 room && leb room maxNodes && ltb (length bs) (areaSize room)) long .1 in
-      ltb-false (length bs) (areaSize room) (rw (le-leb 1 room low, le-leb room maxNodes high) at h)
+  all_inside : 1 ≤ room → room ≤ max_nodes → area_size room ≤ length bs
+  unfolding too_short
+  all_inside low high =
+      let h = (neither (ltb (length bs) head_size) (leb 1 room && leb room max_nodes && ltb (length bs) (area_size room)) long).1 in
+      ltb-false (length bs) (area_size room) (rw (le-leb 1 room low, le-leb room max_nodes high) at h)
 
-  pub measured : numbersRule (decoded bs) ≡ true → {t r u : ℕ} → t ≡ numberAt bs teamsPlace → r ≡ numberAt bs roomPlace
-      → u ≡ numberAt bs usedPlace
+  pub measured : numbers_rule (decoded bs) ≡ true → {t r u : ℕ} → t ≡ number_at bs teams_place → r ≡ number_at bs room_place
+      → u ≡ number_at bs used_place
       → Measured bs t r u
   measured e et er eu =
       let n = told (decoded bs) e in
-      let a : decoded bs .room ≡ _ = room-is bs ∙ sym er in
-      let b : decoded bs .used ≡ _ = used-is bs ∙ sym eu in
+      let a : (decoded bs).room ≡ _ = room_is bs ∙ sym er in
+      let b : (decoded bs).used ≡ _ = used_is bs ∙ sym eu in
       record {
-        teams-is = teams-is bs ∙ sym et;
-        room-is = a;
-        used-is = b;
-        odd = omega (arith, n .odd);
-        fits = omega (arith, n .fits);
-        small = omega (arith, n .high);
-        long = omega (arith, all-inside (omega (arith, n .low)) (omega (arith, n .high)));
+        teams_is = teams_is bs ∙ sym et;
+        room_is = a;
+        used_is = b;
+        odd = omega (arith, n.odd);
+        fits = omega (arith, n.fits);
+        small = omega (arith, n.high);
+        long = omega (arith, all_inside (omega (arith, n.low)) (omega (arith, n.high)));
       }
 
-  code-1 : wellFormed (decoded bs) ≡ false → formedCode bs ≡ 1
-  unfolding formedCode
-  code-1 e = rw (long, e)
+  code_1 : well_formed (decoded bs) ≡ false → formed_code bs ≡ 1
+  unfolding formed_code
+  code_1 e = rw (long, e)
 
-  code-0 : wellFormed (decoded bs) ≡ true → formedCode bs ≡ 0
-  unfolding formedCode
-  code-0 e = rw (long, e)
+  code_0 : well_formed (decoded bs) ≡ true → formed_code bs ≡ 0
+  unfolding formed_code
+  code_0 e = rw (long, e)
 
-  pub judged-1 : wellFormed (decoded bs) ≡ false → judged 1 0 0 ≡ judgedOf bs
-  unfolding judgedOf
-  judged-1 e = rw (code-1 e)
+  pub judged_1 : well_formed (decoded bs) ≡ false → judged 1 0 0 ≡ judged_of bs
+  unfolding judged_of
+  judged_1 e = rw (code_1 e)
 
-  pub judged-0 : wellFormed (decoded bs) ≡ true → (taken stolen : ℕ) → taken ≡ takenIn (decoded bs) → stolen ≡ stolenIn (decoded bs)
-      → judged 0 taken stolen ≡ judgedOf bs
-  unfolding judgedOf
-  judged-0 e taken stolen is so = rw (code-0 e, is, so)
+  pub judged_0 : well_formed (decoded bs) ≡ true → (taken stolen : ℕ) → taken ≡ taken_in (decoded bs) → stolen ≡ stolen_in (decoded bs)
+      → judged 0 taken stolen ≡ judged_of bs
+  unfolding judged_of
+  judged_0 e taken stolen is so = rw (code_0 e, is, so)
 
-code-37 : (bs : List ℕ) → tooShort bs ≡ true → formedCode bs ≡ 37
-unfolding formedCode
-code-37 bs e = rw e
+code_37 : (bs : List ℕ) → too_short bs ≡ true → formed_code bs ≡ 37
+unfolding formed_code
+code_37 bs e = rw e
 
-pub judged-37 : (bs : List ℕ) → tooShort bs ≡ true → judged 37 0 0 ≡ judgedOf bs
-unfolding judgedOf
-judged-37 bs e = rw (code-37 bs e)
+pub judged_37 : (bs : List ℕ) → too_short bs ≡ true → judged 37 0 0 ≡ judged_of bs
+unfolding judged_of
+judged_37 bs e = rw (code_37 bs e)
 
 -- ---- well formed by its parts
 
-pub bad-numbers : (l : Ledger) → numbersRule l ≡ false → wellFormed l ≡ false
-unfolding wellFormed
-bad-numbers l e = rw e
+pub bad_numbers : (l : Ledger) → numbers_rule l ≡ false → well_formed l ≡ false
+unfolding well_formed
+bad_numbers l e = rw e
 
-pub by-table : (l : Ledger) (used : ℕ) (t : Bool) → l .used ≡ used → numbersRule l ≡ true → t ≡ tableRule l used → wellFormed l ≡ t
-unfolding wellFormed
+pub by-table : (l : Ledger) (used : ℕ) (t : Bool) → l.used ≡ used → numbers_rule l ≡ true → t ≡ table_rule l used → well_formed l ≡ t
+unfolding well_formed
 by-table l used t u e h =
-    ap (λ (b : Bool). b && tableRule l (l .used)) e ∙ (ap (λ (k : ℕ). tableRule l k) u ∙ sym h)
+    ap (λ (b : Bool). b && table_rule l l.used) e ∙ (ap (λ (k : ℕ). table_rule l k) u ∙ sym h)
 
 -- the sums over the slots ever used are those over all
-pub counts-told : (bs : List ℕ) (teams room used : ℕ) → Measured bs teams room used → wellFormed (decoded bs) ≡ true
-    → (sumBy usedOf (take used (decoded bs .nodes)) ≡ takenIn (decoded bs))
-    × (sumBy stolenOf (take used (decoded bs .nodes)) ≡ stolenIn (decoded bs))
-unfolding wellFormed
-counts-told bs teams room used m e =
+pub counts_told : (bs : List ℕ) (teams room used : ℕ) → Measured bs teams room used → well_formed (decoded bs) ≡ true
+    → (sum_by used_of (take used (decoded bs).nodes) ≡ taken_in (decoded bs))
+    × (sum_by stolen_of (take used (decoded bs).nodes) ≡ stolen_in (decoded bs))
+unfolding well_formed
+counts_told bs teams room used m e =
     let l = decoded bs in
-    let rest = both (numbersRule l) _ .0 e .1 in
-    let nodes = rootRange l && upTo (nodeRule l) (l .used) && upTo (pairRule l) (l .used) && upTo (reachRule l) (l .used) && roomRule l in
-    let blanks = both nodes (upTo (unusedRule l) maxNodes) .0 rest .1 in
-    (sym (taken-used bs teams room used m blanks), sym (stolen-used bs teams room used m blanks))
+    let rest = ((both (numbers_rule l) _).0 e).1 in
+    let nodes = root_range l && up_to (node_rule l) l.used && up_to (pair_rule l) l.used && up_to (reach_rule l) l.used && room_rule l in
+    let blanks = ((both nodes (up_to (unused_rule l) max_nodes)).0 rest).1 in
+    (sym (taken_used bs teams room used m blanks), sym (stolen_used bs teams room used m blanks))

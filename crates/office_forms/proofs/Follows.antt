@@ -1,29 +1,29 @@
 -- The rule of pairs follows from those of a slot and from the walk: where it meets each slot in use once, no pair has two parents, and a
 -- pair that has none is free.
-use mathlib.Core.Path.{_≡_, refl, sym, ap, _∙_}
-use mathlib.Core.Bool.{Bool, true, false, cond, _&&_, _||_, true≢false}
-use mathlib.Core.List.{[], _∷_}
-use Prim.Native.Nat.{ℕ, _+_, _-_, _*_, _%_, _≤_, _<_}
-use native.Mathlib.Decide.{ℕ-discrete}
+use mathlib.Core.Path.{◌≡◌, refl, sym, ap, ◌∙◌}
+use mathlib.Core.Bool.{Bool, true, false, cond, ◌&&◌, ◌||◌, true≢false}
+use mathlib.Core.List.{[], ◌∷◌}
+use Prim.Native.Nat.{ℕ, ◌+◌, ◌-◌, ◌*◌, ◌%◌, ◌≤◌, ◌<◌}
+use native.Mathlib.Decide.{ℕ_discrete}
 use native.Mathlib.Omega.{arith}
 use lib.Dec.{ltb}
-use borrow.Author.Tests.{eq-eqb, ne-eqb}
-use Rattle·rules.specs.declared.Node.{Node}
-use Rattle·rules.specs.declared.Ledger.{Ledger}
-use Rattle·rules.specs.Limits.{maxNodes}
-use Rattle·rules.specs.Nodes.{blank, isBlank, usedOf}
-use Rattle·rules.specs.Table.{InUse, at, leftAt, sumBy}
-use Rattle·rules.specs.Walk.{walk, sameAs, timesOf}
-use Rattle·rules.specs.WellFormed.{Sized, aloneRule, childRule, stageLimit, noneRule, preparedRule, pushedRule, emptyPushed, stageRule, freePair, freeSlot, nodeRule, leftIs, pairRule}
-use Rattle·rules.proofs.Blank.{used-blank, blank-used, used-most, used-is}
-use Rattle·rules.proofs.Facts.{facts, both}
-use Rattle·rules.proofs.Numbers.{sumUp-alike}
-use Rattle·rules.proofs.Parents.{is-left, no-left}
-use Rattle·rules.proofs.Record.{pair-free}
-use Rattle·rules.proofs.Sums.{table-sum}
-use Rattle·rules.proofs.Tree.{Tree, leaf, fork, times, Rooted, same-one, same-none}
-use Rattle·rules.proofs.TreeSize.{sumTree, weighed}
-use Rattle·rules.proofs.Walk.{rooted-out}
+use borrow.Author.Tests.{eq-eqb, ne_eqb}
+use Rattle.rules.specs.declared.Node.{Node}
+use Rattle.rules.specs.declared.Ledger.{Ledger}
+use Rattle.rules.specs.Limits.{max_nodes}
+use Rattle.rules.specs.Nodes.{blank, is_blank, used_of}
+use Rattle.rules.specs.Table.{InUse, at, left_at, sum_by}
+use Rattle.rules.specs.Walk.{walk, same_as, times_of}
+use Rattle.rules.specs.WellFormed.{Sized, alone_rule, child_rule, stage_limit, none_rule, prepared_rule, pushed_rule, empty_pushed, stage_rule, free_pair, free_slot, node_rule, left_is, pair_rule}
+use Rattle.rules.proofs.Blank.{used_blank, blank_used, used_most, used_is}
+use Rattle.rules.proofs.Facts.{facts, both}
+use Rattle.rules.proofs.Numbers.{sum_up_alike}
+use Rattle.rules.proofs.Parents.{is_left, no_left}
+use Rattle.rules.proofs.Record.{pair_free}
+use Rattle.rules.proofs.Sums.{table_sum}
+use Rattle.rules.proofs.Tree.{Tree, leaf, fork, times, Rooted, same_one, same_none}
+use Rattle.rules.proofs.TreeSize.{sum_tree, weighed}
+use Rattle.rules.proofs.Walk.{rooted_out}
 
 -- ---- a slot
 
@@ -32,139 +32,139 @@ ends true s z = z
 ends false s z = refl
 
 -- an empty node is pushed, and so a slot that is all 0 has no stage that passes
-blank-stage : (a b : Node) → stageRule blank a b ≡ false
-unfolding stageRule
-blank-stage a b =
-    ends (stageLimit blank && noneRule blank && preparedRule blank && pushedRule blank a b) (emptyPushed blank) refl
+blank_stage : (a b : Node) → stage_rule blank a b ≡ false
+unfolding stage_rule
+blank_stage a b =
+    ends (stage_limit blank && none_rule blank && prepared_rule blank && pushed_rule blank a b) (empty_pushed blank) refl
 
-only-free : (f p s : Bool) → s ≡ false → (f || (p && s)) ≡ f
-only-free true p s z = refl
-only-free false p s z = ends p s z
+only_free : (f p s : Bool) → s ≡ false → (f || (p && s)) ≡ f
+only_free true p s z = refl
+only_free false p s z = ends p s z
 
-left-of : (used : ℕ) (x a b : Node) → childRule used x a b ≡ true → 0 < x .left → (x .left % 2 ≡ 0) × (x .left < used)
-unfolding childRule
-left-of used x a b e some =
+left_of : (used : ℕ) (x a b : Node) → child_rule used x a b ≡ true → 0 < x.left → (x.left % 2 ≡ 0) × (x.left < used)
+unfolding child_rule
+left_of used x a b e some =
     let h = (simp facts at e) (omega arith) in
-    let even : x .left % 2 ≡ 0 = search in
-    let below : x .left < used = search in
+    let even : x.left % 2 ≡ 0 = search in
+    let below : x.left < used = search in
     (even, below)
 
 module _ (l : Ledger) (n : ℕ) where
   -- a slot that is all 0 passes as one of a free pair alone
-  pub by-pair : at l n ≡ blank → nodeRule l n ≡ freeSlot l n
-  unfolding nodeRule
-  by-pair e =
+  pub by_pair : at l n ≡ blank → node_rule l n ≡ free_slot l n
+  unfolding node_rule
+  by_pair e =
       rw
       e
-      (only-free (freeSlot l n) (aloneRule (l .teams) blank && childRule (l .used) blank (at l 0) (at l 1)) (stageRule blank (at l 0) (at l 1)) (blank-stage (at l 0) (at l 1)))
+      (only_free (free_slot l n) (alone_rule l.teams blank && child_rule l.used blank (at l 0) (at l 1)) (stage_rule blank (at l 0) (at l 1)) (blank_stage (at l 0) (at l 1)))
 
-  slot-free : freeSlot l n ≡ true → (usedOf (at l (n - n % 2)) ≡ 0) × (usedOf (at l (n - n % 2 + 1)) ≡ 0)
-  unfolding freeSlot
-  slot-free e = pair-free l (n - n % 2) (both (ltb 1 n) (freePair l (n - n % 2)) .0 e .1)
+  slot_free : free_slot l n ≡ true → (used_of (at l (n - n % 2)) ≡ 0) × (used_of (at l (n - n % 2 + 1)) ≡ 0)
+  unfolding free_slot
+  slot_free e = pair_free l (n - n % 2) ((both (ltb 1 n) (free_pair l (n - n % 2))).0 e).1
 
   -- the slot itself is one of the two
-  slot-blank : freeSlot l n ≡ true → usedOf (at l n) ≡ 0
-  slot-blank e = go (ℕ-discrete (n % 2) 0)
+  slot_blank : free_slot l n ≡ true → used_of (at l n) ≡ 0
+  slot_blank e = go (ℕ_discrete (n % 2) 0)
     where
-      go : Dec (n % 2 ≡ 0) → usedOf (at l n) ≡ 0
-      go (yes z) = let f : n - n % 2 ≡ n = omega arith in rw f at (slot-free e .0)
-      go (no z) = let f : n - n % 2 + 1 ≡ n = omega arith in rw f at (slot-free e .1)
+      go : Dec (n % 2 ≡ 0) → used_of (at l n) ≡ 0
+      go (yes z) = let f : n - n % 2 ≡ n = omega arith in rw f at (slot_free e).0
+      go (no z) = let f : n - n % 2 + 1 ≡ n = omega arith in rw f at (slot_free e).1
 
-  pub not-free : isBlank (at l n) ≡ false → freeSlot l n ≡ false
-  not-free e = go (freeSlot l n) refl
+  pub not_free : is_blank (at l n) ≡ false → free_slot l n ≡ false
+  not_free e = go (free_slot l n) refl
     where
-      go : (b : Bool) → freeSlot l n ≡ b → b ≡ false
-      go true f = absurd (omega (arith, slot-blank f, used-is (at l n) e))
+      go : (b : Bool) → free_slot l n ≡ b → b ≡ false
+      go true f = absurd (omega (arith, slot_blank f, used_is (at l n) e))
       go false f = refl
 
-  slot-left : nodeRule l n ≡ true → 0 < at l n .left → (at l n .left % 2 ≡ 0) × (at l n .left < l .used)
-  unfolding nodeRule
-  slot-left e some = go (freeSlot l n) refl e
+  slot_left : node_rule l n ≡ true → 0 < (at l n).left → ((at l n).left % 2 ≡ 0) × ((at l n).left < l.used)
+  unfolding node_rule
+  slot_left e some = go (free_slot l n) refl e
     where
       alone : Bool
-      alone = aloneRule (l .teams) (at l n)
+      alone = alone_rule l.teams (at l n)
 
       child : Bool
-      child = childRule (l .used) (at l n) (at l (at l n .left)) (at l (at l n .left + 1))
+      child = child_rule l.used (at l n) (at l (at l n).left) (at l ((at l n).left + 1))
 
       stage : Bool
-      stage = stageRule (at l n) (at l (at l n .left)) (at l (at l n .left + 1))
+      stage = stage_rule (at l n) (at l (at l n).left) (at l ((at l n).left + 1))
 
-      go : (b : Bool) → freeSlot l n ≡ b → (b || (alone && child && stage)) ≡ true → (at l n .left % 2 ≡ 0) × (at l n .left < l .used)
-      go true f h = let z = ap (λ (x : Node). x .left) (blank-used (at l n) (slot-blank f)) in absurd (omega arith)
-      go false f h = left-of (l .used) (at l n) _ _ (both alone child .0 (both (alone && child) stage .0 h .0) .1) some
+      go : (b : Bool) → free_slot l n ≡ b → (b || (alone && child && stage)) ≡ true → ((at l n).left % 2 ≡ 0) × ((at l n).left < l.used)
+      go true f h = let z = ap (λ (x : Node). x.left) (blank_used (at l n) (slot_blank f)) in absurd (omega arith)
+      go false f h = left_of l.used (at l n) _ _ ((both alone child).0 ((both (alone && child) stage).0 h).0).1 some
 
 -- ---- how often a pair is left child, over the tree
 
-module _ (l : Ledger) (c : ℕ) (some : 0 < c) (even : c % 2 ≡ 0) (evens : (n : ℕ) → InUse l n → 0 < at l n .left → at l n .left % 2 ≡ 0) where
-  here : (n d : ℕ) → at l n .left ≡ d → leftIs c (at l n) ≡ sameAs d c
-  here n d e = go (ℕ-discrete d c)
+module _ (l : Ledger) (c : ℕ) (some : 0 < c) (even : c % 2 ≡ 0) (evens : (n : ℕ) → InUse l n → 0 < (at l n).left → (at l n).left % 2 ≡ 0) where
+  here : (n d : ℕ) → (at l n).left ≡ d → left_is c (at l n) ≡ same_as d c
+  here n d e = go (ℕ_discrete d c)
     where
-      go : Dec (d ≡ c) → leftIs c (at l n) ≡ sameAs d c
-      go (yes f) = is-left c (at l n) (e ∙ f) ∙ sym (same-one d c f)
-      go (no f) = no-left c (at l n) (λ h. f (sym e ∙ h)) ∙ sym (same-none d c f)
+      go : Dec (d ≡ c) → left_is c (at l n) ≡ same_as d c
+      go (yes f) = is_left c (at l n) (e ∙ f) ∙ sym (same_one d c f)
+      go (no f) = no_left c (at l n) (λ h. f (sym e ∙ h)) ∙ sym (same_none d c f)
 
-  counted : {n : ℕ} (t : Tree l n) → times c t ≡ sameAs n c + sumTree (λ (m : ℕ). leftIs c (at l m)) t
-  unfolding times sumTree
-  counted (leaf {n = n} u e) = omega (arith, no-left c (at l n) (omega arith))
+  counted : {n : ℕ} (t : Tree l n) → times c t ≡ same_as n c + sum_tree (λ (m : ℕ). left_is c (at l m)) t
+  unfolding times sum_tree
+  counted (leaf {n = n} u e) = omega (arith, no_left c (at l n) (omega arith))
   counted (fork {n = n} {c = d} u h e x y) =
       let two = evens n u (omega arith) in
-      omega (arith, counted x, counted y, same-none (d + 1) c (omega arith), here n d e)
+      omega (arith, counted x, counted y, same_none (d + 1) c (omega arith), here n d e)
 
   module _ (r : Rooted l) where
-    weight : (m : ℕ) → 1 ≤ m → leftIs c (at l m) ≡ times m (r .tree) * leftIs c (at l m)
-    weight m p = go (ℕ-discrete (usedOf (at l m)) 0)
+    weight : (m : ℕ) → 1 ≤ m → left_is c (at l m) ≡ times m r.tree * left_is c (at l m)
+    weight m p = go (ℕ_discrete (used_of (at l m)) 0)
       where
-        go : Dec (usedOf (at l m) ≡ 0) → leftIs c (at l m) ≡ times m (r .tree) * leftIs c (at l m)
+        go : Dec (used_of (at l m) ≡ 0) → left_is c (at l m) ≡ times m r.tree * left_is c (at l m)
         go (yes q) =
-            let z = ap (λ (x : Node). x .left) (blank-used (at l m) q) in
-            rw (r .once m p ∙ q) (omega (arith, no-left c (at l m) (omega arith)))
-        go (no q) = let one : usedOf (at l m) ≡ 1 = omega (arith, used-most (at l m)) in rw (r .once m p ∙ one) (omega arith)
+            let z = ap (λ (x : Node). x.left) (blank_used (at l m) q) in
+            rw (r.once m p ∙ q) (omega (arith, no_left c (at l m) (omega arith)))
+        go (no q) = let one : used_of (at l m) ≡ 1 = omega (arith, used_most (at l m)) in rw (r.once m p ∙ one) (omega arith)
 
-    pair-sum : Sized l → l .used ≤ maxNodes → sumBy (leftIs c) (l .nodes) ≡ usedOf (at l c)
-    pair-sum sized small =
+    pair_sum : Sized l → l.used ≤ max_nodes → sum_by (left_is c) l.nodes ≡ used_of (at l c)
+    pair_sum sized small =
         let same =
-        sumUp-alike
-        (λ (m : ℕ). leftIs c (at l m))
-        (λ (m : ℕ). times m (r .tree) * leftIs c (at l m))
-        maxNodes
+        sum_up_alike
+        (λ (m : ℕ). left_is c (at l m))
+        (λ (m : ℕ). times m r.tree * left_is c (at l m))
+        max_nodes
         (λ m p q. weight m p) in
         omega
-        (arith, table-sum (leftIs c) l sized, weighed (λ (m : ℕ). leftIs c (at l m)) (r .tree) maxNodes small, counted (r .tree), same-none 1 c (omega arith), r .once c some)
+        (arith, table_sum (left_is c) l sized, weighed (λ (m : ℕ). left_is c (at l m)) r.tree max_nodes small, counted r.tree, same_none 1 c (omega arith), r.once c some)
 
 -- ---- the rule
 
-module _ (l : Ledger) (sized : Sized l) (odd : l .used % 2 ≡ 1) (small : l .used ≤ maxNodes)
-    (blanks : (n : ℕ) → l .used < n → at l n ≡ blank)
-    (nodes : (n : ℕ) → 1 ≤ n → n ≤ l .used → nodeRule l n ≡ true)
-    (reach : (n : ℕ) → 1 ≤ n → n ≤ l .used → timesOf n (walk (leftAt l) (l .used) (1 ∷ [])) ≡ usedOf (at l n)) where
+module _ (l : Ledger) (sized : Sized l) (odd : l.used % 2 ≡ 1) (small : l.used ≤ max_nodes)
+    (blanks : (n : ℕ) → l.used < n → at l n ≡ blank)
+    (nodes : (n : ℕ) → 1 ≤ n → n ≤ l.used → node_rule l n ≡ true)
+    (reach : (n : ℕ) → 1 ≤ n → n ≤ l.used → times_of n (walk (left_at l) l.used (1 ∷ [])) ≡ used_of (at l n)) where
   rooted : Rooted l
   rooted =
-      rooted-out l (omega (arith, odd)) (λ n p q h. slot-left l n (nodes n p q) h .1) (λ n h. used-blank (at l n) (blanks n h)) reach
+      rooted_out l (omega (arith, odd)) (λ n p q h. (slot_left l n (nodes n p q) h).1) (λ n h. used_blank (at l n) (blanks n h)) reach
 
   -- a pair whose left slot is all 0 is free, since that slot passes
-  both-free : (c : ℕ) → 1 ≤ c → c ≤ l .used → c % 2 ≡ 0 → usedOf (at l c) ≡ 0 → freePair l c ≡ true
-  unfolding freeSlot
-  both-free c p q z e =
+  both_free : (c : ℕ) → 1 ≤ c → c ≤ l.used → c % 2 ≡ 0 → used_of (at l c) ≡ 0 → free_pair l c ≡ true
+  unfolding free_slot
+  both_free c p q z e =
       let same : c - c % 2 ≡ c = omega arith in
-      let free = sym (by-pair l c (blank-used (at l c) e)) ∙ nodes c p q in
-      ap (freePair l) (sym same) ∙ both (ltb 1 c) (freePair l (c - c % 2)) .0 free .1
+      let free = sym (by_pair l c (blank_used (at l c) e)) ∙ nodes c p q in
+      ap (free_pair l) (sym same) ∙ ((both (ltb 1 c) (free_pair l (c - c % 2))).0 free).1
 
-  parents-due : (c : ℕ) → 1 ≤ c → c ≤ l .used → c % 2 ≡ 0 → sumBy (leftIs c) (l .nodes) ≡ cond (freePair l c) 0 1
-  parents-due c p q z = go (freePair l c) refl (ℕ-discrete (usedOf (at l c)) 0)
+  parents_due : (c : ℕ) → 1 ≤ c → c ≤ l.used → c % 2 ≡ 0 → sum_by (left_is c) l.nodes ≡ cond (free_pair l c) 0 1
+  parents_due c p q z = go (free_pair l c) refl (ℕ_discrete (used_of (at l c)) 0)
     where
-      sum : sumBy (leftIs c) (l .nodes) ≡ usedOf (at l c)
-      sum = pair-sum l c p z (λ n u h. slot-left l n (nodes n (u .low) (u .high)) h .0) rooted sized small
+      sum : sum_by (left_is c) l.nodes ≡ used_of (at l c)
+      sum = pair_sum l c p z (λ n u h. (slot_left l n (nodes n u.low u.high) h).0) rooted sized small
 
-      go : (b : Bool) → freePair l c ≡ b → Dec (usedOf (at l c) ≡ 0) → sumBy (leftIs c) (l .nodes) ≡ cond b 0 1
-      go true f d = omega (arith, sum, pair-free l c f .0)
-      go false f (yes y) = absurd (true≢false (sym (both-free c p q z y) ∙ f))
-      go false f (no y) = omega (arith, sum, used-most (at l c))
+      go : (b : Bool) → free_pair l c ≡ b → Dec (used_of (at l c) ≡ 0) → sum_by (left_is c) l.nodes ≡ cond b 0 1
+      go true f d = omega (arith, sum, (pair_free l c f).0)
+      go false f (yes y) = absurd (true≢false (sym (both_free c p q z y) ∙ f))
+      go false f (no y) = omega (arith, sum, used_most (at l c))
 
-  pub pairs-follow : (c : ℕ) → 1 ≤ c → c ≤ l .used → pairRule l c ≡ true
-  unfolding pairRule
-  pairs-follow c p q = go (ℕ-discrete (c % 2) 0)
+  pub pairs_follow : (c : ℕ) → 1 ≤ c → c ≤ l.used → pair_rule l c ≡ true
+  unfolding pair_rule
+  pairs_follow c p q = go (ℕ_discrete (c % 2) 0)
     where
-      go : Dec (c % 2 ≡ 0) → pairRule l c ≡ true
-      go (yes z) = rw z (eq-eqb (sumBy (leftIs c) (l .nodes)) (cond (freePair l c) 0 1) (parents-due c p q z))
-      go (no ne) = rw (ne-eqb (c % 2) 0 ne)
+      go : Dec (c % 2 ≡ 0) → pair_rule l c ≡ true
+      go (yes z) = rw z (eq-eqb (sum_by (left_is c) l.nodes) (cond (free_pair l c) 0 1) (parents_due c p q z))
+      go (no ne) = rw (ne_eqb (c % 2) 0 ne)

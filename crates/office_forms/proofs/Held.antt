@@ -1,80 +1,80 @@
 -- What an area tells that the tests let pass.
-use mathlib.Core.Path.{_≡_, refl, sym, ap, _∙_}
+use mathlib.Core.Path.{◌≡◌, refl, sym, ap, ◌∙◌}
 use mathlib.Core.Bool.{Bool, true, false, not, cond}
-use mathlib.Core.List.{List, _++_}
-use Prim.Native.Nat.{ℕ, _+_, _≤_}
+use mathlib.Core.List.{List, ◌++◌}
+use Prim.Native.Nat.{ℕ, ◌+◌, ◌≤◌}
 use native.Mathlib.Omega.{arith}
 use lib.ListN.{length}
-use Rattle·rules.specs.declared.Ledger.{Ledger}
-use Rattle·rules.specs.Limits.{maxNodes}
-use Rattle·rules.specs.Table.{stolenIn, takenIn}
-use Rattle·rules.specs.WellFormed.{numbersRule, wellFormed, Sound}
-use Rattle·rules.proofs.Facts.{both}
-use Rattle·rules.proofs.Record.{WF, rules, both-sound}
-use Rattle·layout.specs.Sizes.{areaSize}
-use Rattle·layout.specs.Numbers.{Bytes}
-use Rattle·layout.specs.Areas.{decoded, over, tooShort}
-use Rattle·layout.proofs.Slots.{slots-length}
-use Rattle·layout.proofs.Stored.{area-is}
-use Rattle·office_forms·specs.specs.declared.Judged.{Judged}
-use Rattle·office_forms·specs.specs.Measured.{Measured}
-use Rattle·office_forms·specs.specs.Codes.{formedCode, judgedOf}
-use Rattle·office_forms·proofs.proofs.Codes.{measured}
+use Rattle.rules.specs.declared.Ledger.{Ledger}
+use Rattle.rules.specs.Limits.{max_nodes}
+use Rattle.rules.specs.Table.{stolen_in, taken_in}
+use Rattle.rules.specs.WellFormed.{numbers_rule, well_formed, Sound}
+use Rattle.rules.proofs.Facts.{both}
+use Rattle.rules.proofs.Record.{WF, rules, both_sound}
+use Rattle.layout.specs.Sizes.{area_size}
+use Rattle.layout.specs.Numbers.{Bytes}
+use Rattle.layout.specs.Areas.{decoded, over, too_short}
+use Rattle.layout.proofs.Slots.{slots_length}
+use Rattle.layout.proofs.Stored.{area_is}
+use Rattle.office_forms.specs.declared.Judged.{Judged}
+use Rattle.office_forms.specs.Measured.{Measured}
+use Rattle.office_forms.specs.Codes.{formed_code, judged_of}
+use Rattle.office_forms.proofs.Codes.{measured}
 
 pub record Held (bs : List ℕ) : Type 0 where
-  pub short : tooShort bs ≡ false
-  pub formed : wellFormed (decoded bs) ≡ true
-  pub room : decoded bs .room ≤ maxNodes
-  pub used : decoded bs .used ≤ decoded bs .room
-  pub long : areaSize (decoded bs .room) ≤ length bs
+  pub short : too_short bs ≡ false
+  pub formed : well_formed (decoded bs) ≡ true
+  pub room : (decoded bs).room ≤ max_nodes
+  pub used : (decoded bs).used ≤ (decoded bs).room
+  pub long : area_size (decoded bs).room ≤ length bs
   pub sound : Sound (decoded bs)
-  pub slots : length (decoded bs .nodes) ≡ maxNodes
+  pub slots : length (decoded bs).nodes ≡ max_nodes
 
-numbers-first : (l : Ledger) → wellFormed l ≡ true → numbersRule l ≡ true
-unfolding wellFormed
-numbers-first l e = both (numbersRule l) _ .0 e .0
+numbers_first : (l : Ledger) → well_formed l ≡ true → numbers_rule l ≡ true
+unfolding well_formed
+numbers_first l e = ((both (numbers_rule l) _).0 e).0
 
-pub held : (bs : List ℕ) → formedCode bs ≡ 0 → Held bs
-unfolding formedCode decoded
-held bs e = go (tooShort bs) (wellFormed (decoded bs)) refl refl e
+pub held : (bs : List ℕ) → formed_code bs ≡ 0 → Held bs
+unfolding formed_code decoded
+held bs e = go (too_short bs) (well_formed (decoded bs)) refl refl e
   where
-    go : (s w : Bool) → tooShort bs ≡ s → wellFormed (decoded bs) ≡ w → _≡_ {A = ℕ} (cond s 37 (cond (not w) 1 0)) 0 → Held bs
+    go : (s w : Bool) → too_short bs ≡ s → well_formed (decoded bs) ≡ w → ◌≡◌ {A = ℕ} (cond s 37 (cond (not w) 1 0)) 0 → Held bs
     go true w p q z = absurd (omega arith)
     go false false p q z = absurd (omega arith)
     go false true p q z =
-        let m = measured bs p (numbers-first (decoded bs) q) refl refl refl in
-        let slots = slots-length bs (omega (arith, m .small)) in
+        let m = measured bs p (numbers_first (decoded bs) q) refl refl refl in
+        let slots = slots_length bs (omega (arith, m.small)) in
         record {
           short = p;
           formed = q;
-          room = m .small;
-          used = m .fits;
-          long = m .long;
-          sound = both-sound slots q;
+          room = m.small;
+          used = m.fits;
+          long = m.long;
+          sound = both_sound slots q;
           slots = slots;
         }
 
-module _ (bs : List ℕ) (e : formedCode bs ≡ 0) where
+module _ (bs : List ℕ) (e : formed_code bs ≡ 0) where
   pub ruled : WF (decoded bs)
-  ruled = rules (decoded bs) (held bs e .sound)
+  ruled = rules (decoded bs) (held bs e).sound
 
   pub whole : Bytes bs → bs ≡ over bs (decoded bs)
-  whole b = area-is bs (record { bytes = b; long = held bs e .long })
+  whole b = area_is bs (record { bytes = b; long = (held bs e).long })
 
 -- ---- what is judged
 
-pub code-of : (bs : List ℕ) {j : Judged} → j ≡ judgedOf bs → j .code ≡ formedCode bs
-unfolding judgedOf
-code-of bs e = ap (λ (j : Judged). j .code) e
+pub code_of : (bs : List ℕ) {j : Judged} → j ≡ judged_of bs → j.code ≡ formed_code bs
+unfolding judged_of
+code_of bs e = ap (λ (j : Judged). j.code) e
 
-pub stolen-of : (bs : List ℕ) {j : Judged} → j ≡ judgedOf bs → j .code ≡ 0 → j .stolen ≡ stolenIn (decoded bs)
-unfolding judgedOf
-stolen-of bs e z =
-    let code : formedCode bs ≡ 0 = sym (code-of bs e) ∙ z in
-    ap (λ (j : Judged). j .stolen) e ∙ rw code
+pub stolen_of : (bs : List ℕ) {j : Judged} → j ≡ judged_of bs → j.code ≡ 0 → j.stolen ≡ stolen_in (decoded bs)
+unfolding judged_of
+stolen_of bs e z =
+    let code : formed_code bs ≡ 0 = sym (code_of bs e) ∙ z in
+    ap (λ (j : Judged). j.stolen) e ∙ rw code
 
-pub taken-of : (bs : List ℕ) {j : Judged} → j ≡ judgedOf bs → j .code ≡ 0 → j .taken ≡ takenIn (decoded bs)
-unfolding judgedOf
-taken-of bs e z =
-    let code : formedCode bs ≡ 0 = sym (code-of bs e) ∙ z in
-    ap (λ (j : Judged). j .taken) e ∙ rw code
+pub taken_of : (bs : List ℕ) {j : Judged} → j ≡ judged_of bs → j.code ≡ 0 → j.taken ≡ taken_in (decoded bs)
+unfolding judged_of
+taken_of bs e z =
+    let code : formed_code bs ≡ 0 = sym (code_of bs e) ∙ z in
+    ap (λ (j : Judged). j.taken) e ∙ rw code

@@ -1,22 +1,19 @@
 -- "37 [..] comes before code 1": what an area is refused with before any request is looked at, 0 where it is not.
-use Prim.Native.Nat.{ℕ}
-use mathlib.Core.List.{List, [], _∷_}
-use mathlib.Core.Bool.{cond, not}
-use lib.Dec.{eqb}
-use Rattle·rules.specs.Table.{stolenIn, takenIn}
-use Rattle·rules.specs.Tests.{_when_, first}
-use Rattle·rules.specs.WellFormed.{wellFormed}
-use Rattle·layout.specs.Areas.{decoded, tooShort}
-use Rattle·office_forms·specs.specs.declared.Judged.{Judged}
+use Rattle.std.specs.Prelude.{ℕ, List, [], ◌∷◌, cond, not, eqb}
+use Rattle.rules.specs.Table.{stolen_in, taken_in}
+use Rattle.rules.specs.Tests.{◌when◌, first}
+use Rattle.rules.specs.WellFormed.{well_formed}
+use Rattle.layout.specs.Areas.{decoded, too_short}
+use Rattle.office_forms.specs.declared.Judged.{Judged}
 
-unfoldable pub formedCode : List ℕ → ℕ
-formedCode bs = first ((37 when tooShort bs) ∷ (1 when not (wellFormed (decoded bs))) ∷ []) 0
+unfoldable pub formed_code : List ℕ → ℕ
+formed_code bs = first ((37 when too_short bs) ∷ (1 when not (well_formed (decoded bs))) ∷ []) 0
 
 -- the same with the counts of slots in use and of STOLEN nodes, 0 where it is refused
-unfoldable pub judgedOf : List ℕ → Judged
-judgedOf bs =
+unfoldable pub judged_of : List ℕ → Judged
+judged_of bs =
     record {
-      code = formedCode bs;
-      taken = cond (eqb (formedCode bs) 0) (takenIn (decoded bs)) 0;
-      stolen = cond (eqb (formedCode bs) 0) (stolenIn (decoded bs)) 0;
+      code = formed_code bs;
+      taken = cond (eqb (formed_code bs) 0) (taken_in (decoded bs)) 0;
+      stolen = cond (eqb (formed_code bs) 0) (stolen_in (decoded bs)) 0;
     }

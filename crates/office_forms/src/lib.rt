@@ -1,28 +1,24 @@
 // 37 and well formed over the bytes of an area, in place: one node is read at a time, and no slot past the area's own room. The rules of a
 // node are those of `nodes::formed`. The ledger's numbers are tested first, so that no other test scans further than they allow.
-ghost use mathlib.Core.Path.{_≡_};
-ghost use mathlib.Core.Bool.{_&&_};
-ghost use Prim.Native.Nat.{_≤_};
-ghost use lib.Dec.{ltb};
-ghost use lib.ListN.{length, take};
-ghost use Rattle·rules.specs.Limits.{maxNodes};
-ghost use Rattle·rules.specs.Nodes.{isBlank, usedOf};
-ghost use Rattle·rules.specs.States.{stolenOf};
-ghost use Rattle·rules.specs.Table.{at, sumBy};
-ghost use Rattle·rules.specs.WellFormed.{upTo, numbersRule, rootRange, nodeRule, unusedRule};
-ghost use Rattle·walks.specs.Counts.{meetings};
-ghost use Rattle·layout.specs.Sizes.{headSize};
-ghost use Rattle·layout.specs.Areas.{decoded, tooShort};
-ghost use Rattle·office_forms·specs.specs.Measured.{Measured, twinOf, familyRule, tableRule, metOnce};
-ghost use Rattle·office_forms·specs.specs.Codes.{judgedOf};
-use rules::Node;
-use rules::Opening;
+ghost use Rattle.std.specs.Prelude.{◌≡◌, ◌&&◌, ◌≤◌, ltb, length, take};
+ghost use Rattle.rules.specs.Limits.{max_nodes};
+ghost use Rattle.rules.specs.Nodes.{is_blank, used_of};
+ghost use Rattle.rules.specs.States.{stolen_of};
+ghost use Rattle.rules.specs.Table.{at, sum_by};
+ghost use Rattle.rules.specs.WellFormed.{up_to, numbers_rule, root_range, node_rule, unused_rule};
+ghost use Rattle.walks.specs.Counts.{meetings};
+ghost use Rattle.layout.specs.Sizes.{head_size};
+ghost use Rattle.layout.specs.Areas.{decoded, too_short};
+ghost use Rattle.office_forms.specs.Measured.{Measured, twin_of, family_rule, table_rule, met_once};
+ghost use Rattle.office_forms.specs.Codes.{judged_of};
+
+use rules::{Node, Opening};
 
 const SLOTS: u32 = Opening::NODES as u32;
 
 fn numbers_ok(bytes: &[u8]) -> bool
-    requires { ⌜ headSize ≤ length (now bytes) ⌝ }
-    ensures { λ r. ⌜ r ≡ numbersRule (decoded (now (bytes .entry))) ⌝ }
+    requires { head_size ≤ length bytes.now }
+    ensures { result ≡ numbers_rule (decoded bytes.now) }
 {
     let start = layout::number_at(bytes, 0);
     let until = layout::number_at(bytes, 4);
@@ -37,8 +33,8 @@ fn numbers_ok(bytes: &[u8]) -> bool
 }
 
 fn root_ok(bytes: &[u8], teams: u32, room: u32, used: u32) -> bool
-    requires { ⌜ Measured (now bytes) teams room used ⌝ }
-    ensures { λ r. ⌜ r ≡ rootRange (decoded (now (bytes .entry))) ⌝ }
+    requires { Measured bytes.now teams room used }
+    ensures { result ≡ root_range (decoded bytes.now) }
 {
     let start = layout::number_at(bytes, 0);
     let until = layout::number_at(bytes, 4);
@@ -48,8 +44,8 @@ fn root_ok(bytes: &[u8], teams: u32, room: u32, used: u32) -> bool
 
 // The rules of a node that look at its children. They are read only where their numbers are below used: elsewhere no rule sees them.
 fn family_ok(bytes: &[u8], teams: u32, room: u32, used: u32, x: Node) -> bool
-    requires { ⌜ Measured (now bytes) teams room used ⌝ }
-    ensures { λ r. ⌜ r ≡ familyRule (decoded (now (bytes .entry))) used x ⌝ }
+    requires { Measured bytes.now teams room used }
+    ensures { result ≡ family_rule (decoded bytes.now) used x }
 {
     let left = x.left;
     if left == 0 {
@@ -67,8 +63,8 @@ fn family_ok(bytes: &[u8], teams: u32, room: u32, used: u32, x: Node) -> bool
 
 // Whether the other slot of a pair is all 0. The root is in no pair.
 fn twin_blank(bytes: &[u8], teams: u32, room: u32, used: u32, n: u32) -> bool
-    requires { ⌜ Measured (now bytes) teams room used × (1 ≤ n) × (n ≤ used) ⌝ }
-    ensures { λ r. ⌜ r ≡ (ltb 1 n && isBlank (at (decoded (now (bytes .entry))) (twinOf n))) ⌝ }
+    requires { Measured bytes.now teams room used × (1 ≤ n) × (n ≤ used) }
+    ensures { result ≡ (ltb 1 n && is_blank (at (decoded bytes.now) (twin_of n))) }
 {
     if n < 2 {
         return false;
@@ -80,8 +76,8 @@ fn twin_blank(bytes: &[u8], teams: u32, room: u32, used: u32, n: u32) -> bool
 
 // A slot that is all 0 passes as one of a free pair alone, and any other as a node that is in use.
 fn slot_ok(bytes: &[u8], teams: u32, room: u32, used: u32, n: u32, x: Node) -> bool
-    requires { ⌜ Measured (now bytes) teams room used × (1 ≤ n) × (n ≤ used) × (x ≡ at (decoded (now bytes)) n) ⌝ }
-    ensures { λ r. ⌜ r ≡ nodeRule (decoded (now (bytes .entry))) n ⌝ }
+    requires { Measured bytes.now teams room used × (1 ≤ n) × (n ≤ used) × (x ≡ at (decoded bytes.now) n) }
+    ensures { result ≡ node_rule (decoded bytes.now) n }
 {
     if nodes::formed::blank_ok(x) {
         return twin_blank(bytes, teams, room, used, n);
@@ -93,8 +89,8 @@ fn slot_ok(bytes: &[u8], teams: u32, room: u32, used: u32, n: u32, x: Node) -> b
 
 // Whether the walk from the root meets each slot as often as it is in use, which is once or never.
 fn reach_ok(lefts: [u32; Opening::NODES], some: [u32; Opening::NODES], used: u32) -> bool
-    requires { ⌜ used ≤ maxNodes ⌝ }
-    ensures { λ r. ⌜ r ≡ upTo (metOnce (meetings lefts used) some) used ⌝ }
+    requires { used ≤ max_nodes }
+    ensures { result ≡ up_to (met_once (meetings lefts used) some) used }
 {
     let seen = walks::meetings(lefts, used);
     let mut ok = true;
@@ -111,8 +107,8 @@ fn reach_ok(lefts: [u32; Opening::NODES], some: [u32; Opening::NODES], used: u32
 
 // The slots after those ever used, up to the area's own room: the bytes past it are the caller's.
 fn blanks_ok(bytes: &[u8], teams: u32, room: u32, used: u32) -> bool
-    requires { ⌜ Measured (now bytes) teams room used ⌝ }
-    ensures { λ r. ⌜ r ≡ upTo (unusedRule (decoded (now (bytes .entry)))) maxNodes ⌝ }
+    requires { Measured bytes.now teams room used }
+    ensures { result ≡ up_to (unused_rule (decoded bytes.now)) max_nodes }
 {
     let mut ok = true;
     let mut i: u32 = used;
@@ -127,6 +123,7 @@ fn blanks_ok(bytes: &[u8], teams: u32, room: u32, used: u32) -> bool
 }
 
 // Whether the table passes, how many slots are in use, and how many of their nodes are STOLEN.
+#[derive(Drop)]
 struct Walked {
     ok: bool,
     taken: u32,
@@ -135,10 +132,10 @@ struct Walked {
 
 // The rule of pairs has no test of its own: it follows where each slot passes and the walk from the root meets each slot in use once.
 fn table_ok(bytes: &[u8], teams: u32, room: u32, used: u32) -> Walked
-    requires { ⌜ Measured (now bytes) teams room used ⌝ }
-    ensures { λ r. ⌜ r .taken ≡ sumBy usedOf (take used (decoded (now (bytes .entry)) .nodes)) ⌝ }
-    ensures { λ r. ⌜ r .stolen ≡ sumBy stolenOf (take used (decoded (now (bytes .entry)) .nodes)) ⌝ }
-    ensures { λ r. ⌜ r .ok ≡ tableRule (decoded (now (bytes .entry))) used ⌝ }
+    requires { Measured bytes.now teams room used }
+    ensures taken_value { result.taken ≡ sum_by used_of (take used (decoded bytes.now).nodes) }
+    ensures stolen_value { result.stolen ≡ sum_by stolen_of (take used (decoded bytes.now).nodes) }
+    ensures ok_value { result.ok ≡ table_rule (decoded bytes.now) used }
 {
     let root = root_ok(bytes, teams, room, used);
     let blanks = blanks_ok(bytes, teams, room, used);
@@ -172,7 +169,7 @@ fn table_ok(bytes: &[u8], teams: u32, room: u32, used: u32) -> Walked
 
 // Whether the area is shorter than 20 bytes, or than its own nodes number says.
 fn too_short(bytes: &[u8]) -> bool
-    ensures { λ r. ⌜ r ≡ tooShort (now (bytes .entry)) ⌝ }
+    ensures { result ≡ too_short bytes.now }
 {
     if bytes.len() < layout::HEAD {
         return true;
@@ -188,6 +185,7 @@ fn too_short(bytes: &[u8]) -> bool
 }
 
 // What the tests say of an area: 37, or 1, or 0 with the slots in use and the STOLEN nodes, which the walk has counted anyhow.
+#[derive(Drop)]
 pub struct Judged {
     pub code: u32,
     pub taken: u32,
@@ -195,7 +193,7 @@ pub struct Judged {
 }
 
 pub fn judge(bytes: &[u8]) -> Judged
-    ensures { λ r. ⌜ r ≡ judgedOf (now (bytes .entry)) ⌝ }
+    ensures { result ≡ judged_of bytes.now }
 {
     if too_short(bytes) {
         return Judged {

@@ -1,23 +1,23 @@
 -- Where a change of node n stores, and what: slots of the ledger's own room, and numbers within the limits. The code tests none of it.
-use Prim.Native.Nat.{ℕ, _+_, _≤_}
-use Rattle·rules.specs.declared.Ledger.{Ledger}
-use Rattle·rules.specs.declared.Change.{Change}
-use Rattle·rules.specs.declared.Change.the-variants.{Keep, Own, Advance, Mark, Split, Report, Push, Fold}
-use Rattle·rules.specs.Limits.{maxUntil}
-use Rattle·rules.specs.Nodes.{middle, joinedOf}
-use Rattle·rules.specs.Table.{at}
-use Rattle·finds.specs.Held.{mostHeld}
+use Rattle.std.specs.Prelude.{ℕ, ◌+◌, ◌≤◌}
+use Rattle.rules.specs.declared.Ledger.{Ledger}
+use Rattle.rules.specs.declared.Change.{Change}
+use Rattle.rules.specs.declared.Change.TheVariants.{Keep, Own, Advance, Mark, Split, Report, Push, Fold}
+use Rattle.rules.specs.Limits.{max_until}
+use Rattle.rules.specs.Nodes.{middle, joined_of}
+use Rattle.rules.specs.Table.{at}
+use Rattle.finds.specs.Held.{most_held}
 
 -- node n stands in a slot of the room
 abbrev pub Roomed : Ledger → ℕ → Type 0
-Roomed l n = (1 ≤ n) × (n ≤ l .room)
+Roomed l n = (1 ≤ n) × (n ≤ l.room)
 
 abbrev pub Inside : Ledger → ℕ → Change → Type 0
 Inside l n Keep = Unit {0}
 Inside l n (Own team) = Roomed l n
-Inside l n (Advance p) = Roomed l n × (p ≤ maxUntil)
-Inside l n (Mark p) = Roomed l n × (p ≤ maxUntil)
-Inside l n (Split c) = Roomed l n × Roomed l c × Roomed l (c + 1) × (middle (at l n) ≤ maxUntil)
+Inside l n (Advance p) = Roomed l n × (p ≤ max_until)
+Inside l n (Mark p) = Roomed l n × (p ≤ max_until)
+Inside l n (Split c) = Roomed l n × Roomed l c × Roomed l (c + 1) × (middle (at l n) ≤ max_until)
 Inside l n (Report f) = Roomed l n
-Inside l n Push = Roomed l n × (joinedOf (at l n) (at l (at l n .left)) (at l (at l n .left + 1)) .count ≤ mostHeld)
-Inside l n Fold = Roomed l n × Roomed l (at l n .left) × Roomed l (at l n .left + 1) × (at l n .until ≤ maxUntil)
+Inside l n Push = Roomed l n × ((joined_of (at l n) (at l (at l n).left) (at l ((at l n).left + 1))).count ≤ most_held)
+Inside l n Fold = Roomed l n × Roomed l (at l n).left × Roomed l ((at l n).left + 1) × ((at l n).until ≤ max_until)

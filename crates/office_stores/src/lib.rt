@@ -1,30 +1,30 @@
 // Writes what a change moves, and nothing else.
-ghost use mathlib.Core.Path.{_≡_};
-ghost use Rattle·rules.specs.Requests.{changed};
-ghost use Rattle·layout.specs.Areas.{decoded, over};
-ghost use Rattle·office_forms.specs.Codes.{formedCode};
-ghost use Rattle·office_stores·specs.specs.Changes.{Inside};
-use rules::Change;
-use rules::Finds;
+ghost use Rattle.std.specs.Prelude.{◌≡◌};
+ghost use Rattle.rules.specs.Requests.{changed};
+ghost use Rattle.layout.specs.Areas.{decoded, over};
+ghost use Rattle.office_forms.specs.Codes.{formed_code};
+ghost use Rattle.office_stores.specs.Changes.{Inside};
+
+use rules::{Change, Finds};
 
 fn own(bytes: &mut [u8], n: u32, team: u32)
-    requires { ⌜ (formedCode (now bytes) ≡ 0) × Inside (decoded (now bytes)) n (Change.Own team) ⌝ }
-    ensures { λ _. ⌜ now (bytes .exit) ≡ over (now (bytes .entry)) (changed (decoded (now (bytes .entry))) n (Change.Own team)) ⌝ }
+    requires { (formed_code bytes.old ≡ 0) × Inside (decoded bytes.old) n (Change.Own team) }
+    ensures { bytes.new ≡ over bytes.old (changed (decoded bytes.old) n (Change.Own team)) }
 {
     layout::put_owner(bytes, (n - 1) as usize, team);
 }
 
 fn advance(bytes: &mut [u8], n: u32, p: u32)
-    requires { ⌜ (formedCode (now bytes) ≡ 0) × Inside (decoded (now bytes)) n (Change.Advance p) ⌝ }
-    ensures { λ _. ⌜ now (bytes .exit) ≡ over (now (bytes .entry)) (changed (decoded (now (bytes .entry))) n (Change.Advance p)) ⌝ }
+    requires { (formed_code bytes.old ≡ 0) × Inside (decoded bytes.old) n (Change.Advance p) }
+    ensures { bytes.new ≡ over bytes.old (changed (decoded bytes.old) n (Change.Advance p)) }
 {
     let progress = numbers::to_signed(p);
     layout::put_progress(bytes, (n - 1) as usize, progress);
 }
 
 fn steal(bytes: &mut [u8], n: u32, p: u32)
-    requires { ⌜ (formedCode (now bytes) ≡ 0) × Inside (decoded (now bytes)) n (Change.Mark p) ⌝ }
-    ensures { λ _. ⌜ now (bytes .exit) ≡ over (now (bytes .entry)) (changed (decoded (now (bytes .entry))) n (Change.Mark p)) ⌝ }
+    requires { (formed_code bytes.old ≡ 0) × Inside (decoded bytes.old) n (Change.Mark p) }
+    ensures { bytes.new ≡ over bytes.old (changed (decoded bytes.old) n (Change.Mark p)) }
 {
     let progress = numbers::mark_of(numbers::to_signed(p));
     layout::put_progress(bytes, (n - 1) as usize, progress);
@@ -32,8 +32,8 @@ fn steal(bytes: &mut [u8], n: u32, p: u32)
 
 // The node gets its left child's number; the two slots of a free pair, or the next two, become the children.
 fn split(bytes: &mut [u8], n: u32, pair: u32)
-    requires { ⌜ (formedCode (now bytes) ≡ 0) × Inside (decoded (now bytes)) n (Change.Split pair) ⌝ }
-    ensures { λ _. ⌜ now (bytes .exit) ≡ over (now (bytes .entry)) (changed (decoded (now (bytes .entry))) n (Change.Split pair)) ⌝ }
+    requires { (formed_code bytes.old ≡ 0) × Inside (decoded bytes.old) n (Change.Split pair) }
+    ensures { bytes.new ≡ over bytes.old (changed (decoded bytes.old) n (Change.Split pair)) }
 {
     let slot = (n - 1) as usize;
     let x = layout::slot_in(bytes, slot);
@@ -49,16 +49,16 @@ fn split(bytes: &mut [u8], n: u32, pair: u32)
 }
 
 fn report(bytes: &mut [u8], n: u32, f: Finds)
-    requires { ⌜ (formedCode (now bytes) ≡ 0) × Inside (decoded (now bytes)) n (Change.Report f) ⌝ }
-    ensures { λ _. ⌜ now (bytes .exit) ≡ over (now (bytes .entry)) (changed (decoded (now (bytes .entry))) n (Change.Report f)) ⌝ }
+    requires { (formed_code bytes.old ≡ 0) × Inside (decoded bytes.old) n (Change.Report f) }
+    ensures { bytes.new ≡ over bytes.old (changed (decoded bytes.old) n (Change.Report f)) }
 {
     layout::put_own(bytes, (n - 1) as usize, f);
 }
 
 // The joined result is made of the node's own and its children's, which are read again: a push is rare.
 fn push(bytes: &mut [u8], n: u32)
-    requires { ⌜ (formedCode (now bytes) ≡ 0) × Inside (decoded (now bytes)) n Change.Push ⌝ }
-    ensures { λ _. ⌜ now (bytes .exit) ≡ over (now (bytes .entry)) (changed (decoded (now (bytes .entry))) n Change.Push) ⌝ }
+    requires { (formed_code bytes.old ≡ 0) × Inside (decoded bytes.old) n Change.Push }
+    ensures { bytes.new ≡ over bytes.old (changed (decoded bytes.old) n Change.Push) }
 {
     let slot = (n - 1) as usize;
     let room = layout::number_at(bytes, layout::ROOM);
@@ -72,8 +72,8 @@ fn push(bytes: &mut [u8], n: u32)
 
 // The node is COMPLETED, and keeps its results; both slots of its pair become all 0.
 fn fold(bytes: &mut [u8], n: u32)
-    requires { ⌜ (formedCode (now bytes) ≡ 0) × Inside (decoded (now bytes)) n Change.Fold ⌝ }
-    ensures { λ _. ⌜ now (bytes .exit) ≡ over (now (bytes .entry)) (changed (decoded (now (bytes .entry))) n Change.Fold) ⌝ }
+    requires { (formed_code bytes.old ≡ 0) × Inside (decoded bytes.old) n Change.Fold }
+    ensures { bytes.new ≡ over bytes.old (changed (decoded bytes.old) n Change.Fold) }
 {
     let slot = (n - 1) as usize;
     let x = layout::slot_in(bytes, slot);
@@ -88,8 +88,8 @@ fn fold(bytes: &mut [u8], n: u32)
 
 // A change of node n. What it stores stands in the ledger's own room, so nothing is tested here.
 pub fn apply(bytes: &mut [u8], n: u32, c: Change)
-    requires { ⌜ (formedCode (now bytes) ≡ 0) × Inside (decoded (now bytes)) n c ⌝ }
-    ensures { λ _. ⌜ now (bytes .exit) ≡ over (now (bytes .entry)) (changed (decoded (now (bytes .entry))) n c) ⌝ }
+    requires { (formed_code bytes.old ≡ 0) × Inside (decoded bytes.old) n c }
+    ensures { bytes.new ≡ over bytes.old (changed (decoded bytes.old) n c) }
 {
     match c {
         Change::Keep => {}

@@ -1,29 +1,22 @@
 // What a request sees of the ledger that an area stands for, what it answers, and the unclaimed count.
-ghost use mathlib.Core.Path.{_≡_};
-ghost use mathlib.Core.Bool.{cond};
-ghost use Prim.Native.Nat.{_+_, _≤_};
-ghost use lib.Dec.{eqb};
-ghost use lib.ListN.{length};
-ghost use Rattle·rules.specs.Asks.{EXPAND};
-ghost use Rattle·rules.specs.Count.{unclaimed};
-ghost use Rattle·rules.specs.Requests.{decided, view, nodeIn};
-ghost use Rattle·rules.specs.Table.{at, nextPair, stolenIn, takenIn};
-ghost use Rattle·requests.specs.Unseen.{pairSeen};
-ghost use Rattle·layout.specs.Sizes.{answerSize};
-ghost use Rattle·layout.specs.Numbers.{written};
-ghost use Rattle·layout.specs.Areas.{decoded};
-ghost use Rattle·office_forms.specs.Codes.{formedCode};
-ghost use Rattle·office_views·specs.specs.Answers.{answerBytes};
-use rules::Answer;
-use rules::Node;
-use rules::Outcome;
-use rules::Request;
-use rules::View;
+ghost use Rattle.std.specs.Prelude.{◌≡◌, cond, ◌+◌, ◌≤◌, eqb, length};
+ghost use Rattle.rules.specs.Asks.{EXPAND};
+ghost use Rattle.rules.specs.Count.{unclaimed};
+ghost use Rattle.rules.specs.Requests.{decided, view, node_in};
+ghost use Rattle.rules.specs.Table.{at, next_pair, stolen_in, taken_in};
+ghost use Rattle.requests.specs.Unseen.{pair_seen};
+ghost use Rattle.layout.specs.Sizes.{answer_size};
+ghost use Rattle.layout.specs.Numbers.{written};
+ghost use Rattle.layout.specs.Areas.{decoded};
+ghost use Rattle.office_forms.specs.Codes.{formed_code};
+ghost use Rattle.office_views.specs.Answers.{answer_bytes};
+
+use rules::{Answer, Node, Outcome, Request, View};
 
 // The node in a slot; past the room there are unused ones alone.
 pub fn slot_or_blank(bytes: &[u8], room: u32, slot: u32) -> Node
-    requires { ⌜ (formedCode (now bytes) ≡ 0) × (room ≡ decoded (now bytes) .room) ⌝ }
-    ensures { λ x. ⌜ x ≡ at (decoded (now (bytes .entry))) (slot + 1) ⌝ }
+    requires { (formed_code bytes.now ≡ 0) × (room ≡ (decoded bytes.now).room) }
+    ensures { result ≡ at (decoded bytes.now) (slot + 1) }
 {
     if slot < room {
         layout::slot_in(bytes, slot as usize)
@@ -33,16 +26,16 @@ pub fn slot_or_blank(bytes: &[u8], room: u32, slot: u32) -> Node
 }
 
 pub fn node_in(bytes: &[u8], room: u32, n: u32) -> Node
-    requires { ⌜ (formedCode (now bytes) ≡ 0) × (room ≡ decoded (now bytes) .room) ⌝ }
-    ensures { λ x. ⌜ x ≡ at (decoded (now (bytes .entry))) n ⌝ }
+    requires { (formed_code bytes.now ≡ 0) × (room ≡ (decoded bytes.now).room) }
+    ensures { result ≡ at (decoded bytes.now) n }
 {
     slot_or_blank(bytes, room, numbers::less_by(n, 1))
 }
 
 // The lowest free pair, else the next two slots: the left slot of a pair tells, since both of its slots are all 0 or neither.
 fn pair_in(bytes: &[u8], used: u32) -> u32
-    requires { ⌜ (formedCode (now bytes) ≡ 0) × (used ≡ decoded (now bytes) .used) ⌝ }
-    ensures { λ c. ⌜ c ≡ nextPair (decoded (now (bytes .entry))) ⌝ }
+    requires { (formed_code bytes.now ≡ 0) × (used ≡ (decoded bytes.now).used) }
+    ensures { result ≡ next_pair (decoded bytes.now) }
 {
     let mut c: u32 = 2;
     while c < used {
@@ -57,8 +50,8 @@ fn pair_in(bytes: &[u8], used: u32) -> u32
 
 // Only an expand looks at the pair, so that it is not searched for any other kind.
 fn pair_for(bytes: &[u8], used: u32, kind: u32) -> u32
-    requires { ⌜ (formedCode (now bytes) ≡ 0) × (used ≡ decoded (now bytes) .used) ⌝ }
-    ensures { λ c. ⌜ c ≡ cond (eqb kind EXPAND) (nextPair (decoded (now (bytes .entry)))) 0 ⌝ }
+    requires { (formed_code bytes.now ≡ 0) × (used ≡ (decoded bytes.now).used) }
+    ensures { result ≡ cond (eqb kind EXPAND) (next_pair (decoded bytes.now)) 0 }
 {
     if kind == Request::EXPAND {
         pair_in(bytes, used)
@@ -69,8 +62,8 @@ fn pair_for(bytes: &[u8], used: u32, kind: u32) -> u32
 
 // What a request of a kind sees of node n: itself, and the children that it names.
 fn view_in(bytes: &[u8], taken: u32, stolen: u32, kind: u32, n: u32) -> View
-    requires { ⌜ (formedCode (now bytes) ≡ 0) × (taken ≡ takenIn (decoded (now bytes))) × (stolen ≡ stolenIn (decoded (now bytes))) ⌝ }
-    ensures { λ v. ⌜ v ≡ pairSeen kind (view (decoded (now (bytes .entry))) n) ⌝ }
+    requires { (formed_code bytes.now ≡ 0) × (taken ≡ taken_in (decoded bytes.now)) × (stolen ≡ stolen_in (decoded bytes.now)) }
+    ensures { result ≡ pair_seen kind (view (decoded bytes.now) n) }
 {
     let teams = layout::number_at(bytes, layout::TEAMS);
     let room = layout::number_at(bytes, layout::ROOM);
@@ -93,8 +86,8 @@ fn view_in(bytes: &[u8], taken: u32, stolen: u32, kind: u32, n: u32) -> View
 }
 
 pub fn outcome_of(bytes: &[u8], taken: u32, stolen: u32, r: Request) -> Outcome
-    requires { ⌜ (formedCode (now bytes) ≡ 0) × (taken ≡ takenIn (decoded (now bytes))) × (stolen ≡ stolenIn (decoded (now bytes))) ⌝ }
-    ensures { λ o. ⌜ o ≡ decided (view (decoded (now (bytes .entry))) (nodeIn r)) r ⌝ }
+    requires { (formed_code bytes.now ≡ 0) × (taken ≡ taken_in (decoded bytes.now)) × (stolen ≡ stolen_in (decoded bytes.now)) }
+    ensures { result ≡ decided (view (decoded bytes.now) (node_in r)) r }
 {
     let n = numbers::natural(r.node);
     let kind = numbers::natural(r.kind);
@@ -103,8 +96,8 @@ pub fn outcome_of(bytes: &[u8], taken: u32, stolen: u32, r: Request) -> Outcome
 }
 
 pub fn put_answer(out: &mut [u8], a: Answer)
-    requires { ⌜ answerSize ≤ length (now out) ⌝ }
-    ensures { λ _. ⌜ now (out .exit) ≡ written (now (out .entry)) 0 (answerBytes a) ⌝ }
+    requires { answer_size ≤ length out.old }
+    ensures { out.new ≡ written out.old 0 (answer_bytes a) }
 {
     layout::put_number(out, 0, a.code);
     layout::put_number(out, 4, a.state);
@@ -116,8 +109,8 @@ pub fn put_answer(out: &mut [u8], a: Answer)
 
 // What the nodes in use add to the unclaimed count: unused slots add nothing.
 pub fn unclaimed_in(bytes: &[u8], used: u32) -> u64
-    requires { ⌜ (formedCode (now bytes) ≡ 0) × (used ≡ decoded (now bytes) .used) ⌝ }
-    ensures { λ k. ⌜ k ≡ unclaimed (decoded (now (bytes .entry))) ⌝ }
+    requires { (formed_code bytes.now ≡ 0) × (used ≡ (decoded bytes.now).used) }
+    ensures { result ≡ unclaimed (decoded bytes.now) }
 {
     let mut k: u64 = 0;
     let mut i: u32 = 0;

@@ -1,13 +1,8 @@
 // A lesson: a ledger with what was granted from it so far. Each step or request is printed, with the listing after it.
 use crate::show;
-use rules::Answer;
-use rules::Ledger;
-use rules::Opening;
-use rules::Request;
-use sheet_order::Piece;
-use sheet_order::Pieces;
-use steps::Program;
-use steps::Team;
+use rules::{Answer, Ledger, Opening, Request};
+use sheet_order::{Piece, Pieces};
+use steps::{Program, Team};
 
 pub(crate) const TAKE: i32 = Request::OWN as i32;
 
@@ -17,6 +12,7 @@ pub(crate) const MARK: i32 = Request::MARK as i32;
 
 pub(crate) const SPLIT: i32 = Request::EXPAND as i32;
 
+#[derive(Drop)]
 pub(crate) struct Lesson {
     pub(crate) ledger: Ledger,
     pub(crate) granted: Pieces,
@@ -93,6 +89,7 @@ pub(crate) fn ask(
 }
 
 // A lesson whose teams follow the team program, each by its record.
+#[derive(Drop)]
 pub(crate) struct Run {
     lesson: Lesson,
     records: [Team; Team::RECORDS],

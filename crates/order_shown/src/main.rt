@@ -1,7 +1,6 @@
 // Shows the listing of small ledgers: the document's schedule after each of its steps, and a few more.
 use crate::lesson::Run;
-use sheet_order::Piece;
-use sheet_order::Pieces;
+use sheet_order::{Piece, Pieces};
 
 mod lesson;
 mod show;

@@ -1,10 +1,7 @@
 // Prints what was asked, and a listing as three rows: the sheets in the order of the listing, who was granted each, and the node that lists it.
 use libc::STDOUT_FILENO;
-use rules::Answer;
-use rules::Ledger;
-use rules::Request;
-use sheet_order::Piece;
-use sheet_order::Pieces;
+use rules::{Answer, Ledger, Request};
+use sheet_order::{Piece, Pieces};
 
 const SHEET: u32 = 0;
 

@@ -1,17 +1,15 @@
 // Program 2: a search looks at each node, remembers the one with the greatest rest, and goes to it after the last.
-ghost use mathlib.Core.Path.{_≡_};
-ghost use Rattle·steps.specs.Places.{restIn, sighted, greater, chosen, lookOn, greatestSight, greatestSeek, greatestMark};
-ghost use Rattle·places·specs.specs.Clipped.{clippedTeam};
+ghost use Rattle.std.specs.Prelude.{◌≡◌};
+ghost use Rattle.steps.specs.Places.{rest_in, sighted, greater, chosen, look_on, greatest_sight, greatest_seek, greatest_mark};
+ghost use Rattle.places.specs.Clipped.{clipped_team};
+
 use crate::records;
-use rules::Answer;
-use rules::Node;
-use steps::Memory;
-use steps::Side;
-use steps::Team;
+use rules::{Answer, Node};
+use steps::{Memory, Side, Team};
 
 // What is left of the node that is remembered.
 fn rest_in(m: Memory) -> u32
-    ensures { λ k. ⌜ k ≡ restIn m ⌝ }
+    ensures { result ≡ rest_in m }
 {
     match m {
         Memory::Nothing => 0,
@@ -22,7 +20,7 @@ fn rest_in(m: Memory) -> u32
 
 // What there is to remember of the node that is seen.
 fn sighted_by(number: u32, t: Team, a: Answer) -> Memory
-    ensures { λ m. ⌜ m ≡ sighted number (clippedTeam t) a ⌝ }
+    ensures { result ≡ sighted number (clipped_team t) a }
 {
     let n = records::node_in(t);
     let rest = numbers::less_by(a.to, a.from);
@@ -37,7 +35,7 @@ fn sighted_by(number: u32, t: Team, a: Answer) -> Memory
 
 // The search goes up, so on equal rests the lower number stays.
 fn greater_of(old: Memory, new: Memory) -> Memory
-    ensures { λ m. ⌜ m ≡ greater old new ⌝ }
+    ensures { result ≡ greater old new }
 {
     if rest_in(old) < rest_in(new) {
         new
@@ -48,7 +46,7 @@ fn greater_of(old: Memory, new: Memory) -> Memory
 
 // What is remembered is taken or marked as it was seen, however long ago.
 fn choose(t: Team) -> Team
-    ensures { λ r. ⌜ r ≡ chosen (clippedTeam t) (t .memory) ⌝ }
+    ensures { result ≡ chosen (clipped_team t) t.memory }
 {
     let m = t.memory;
     match m {
@@ -59,7 +57,7 @@ fn choose(t: Team) -> Team
 }
 
 fn look_on(number: u32, t: Team, a: Answer) -> Team
-    ensures { λ r. ⌜ r ≡ lookOn number (clippedTeam t) a ⌝ }
+    ensures { result ≡ look_on number (clipped_team t) a }
 {
     let old = t.memory;
     let new = sighted_by(number, t, a);
@@ -67,7 +65,7 @@ fn look_on(number: u32, t: Team, a: Answer) -> Team
 }
 
 fn sight(number: u32, t: Team, a: Answer) -> Team
-    ensures { λ r. ⌜ r ≡ greatestSight number (clippedTeam t) a ⌝ }
+    ensures { result ≡ greatest_sight number (clipped_team t) a }
 {
     let state = a.state;
     match state {
@@ -77,7 +75,7 @@ fn sight(number: u32, t: Team, a: Answer) -> Team
 }
 
 pub(crate) fn seek(number: u32, t: Team, a: Answer) -> Team
-    ensures { λ r. ⌜ r ≡ greatestSeek number (clippedTeam t) a ⌝ }
+    ensures { result ≡ greatest_seek number (clipped_team t) a }
 {
     let code = a.code;
     match code {
@@ -88,7 +86,7 @@ pub(crate) fn seek(number: u32, t: Team, a: Answer) -> Team
 
 // Any refusal starts a new search.
 pub(crate) fn mark(t: Team, a: Answer) -> Team
-    ensures { λ r. ⌜ r ≡ greatestMark (clippedTeam t) a ⌝ }
+    ensures { result ≡ greatest_mark (clipped_team t) a }
 {
     let code = a.code;
     match code {

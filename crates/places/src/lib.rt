@@ -1,28 +1,21 @@
 // The seven places: what a team asks at each, and where the answer sends it. Where the answers to a look and to a mark send it is its
 // program: the scan's stands here, the other's in `greatest`.
-ghost use mathlib.Core.Path.{_≡_};
-ghost use mathlib.Core.Bool.{cond};
-ghost use lib.Dec.{eqb};
-ghost use Rattle·steps.specs.Records.{claim, mark, isStopped};
-ghost use Rattle·numbers.specs.Progress.{signed};
-ghost use Rattle·rules.specs.Asks.{plain};
-ghost use Rattle·steps.specs.Places.{stealable, again, onward, grownSize, sightMoves, seekMoves, takeMoves, workMoves, claimMoves, markMoves, splitMoves, searchOf};
-ghost use Rattle·places·specs.specs.Clipped.{clippedTeam, clippedAnswer, clippedAsks, clippedMoves};
+ghost use Rattle.std.specs.Prelude.{◌≡◌, cond, eqb};
+ghost use Rattle.steps.specs.Records.{claim, mark, is_stopped};
+ghost use Rattle.numbers.specs.Progress.{signed};
+ghost use Rattle.rules.specs.Asks.{plain};
+ghost use Rattle.steps.specs.Places.{stealable, again, onward, grown_size, sight_moves, seek_moves, take_moves, work_moves, claim_moves, mark_moves, split_moves, search_of};
+ghost use Rattle.places.specs.Clipped.{clipped_team, clipped_answer, clipped_asks, clipped_moves};
 
 mod greatest;
 mod records;
 
-use rules::Answer;
-use rules::Node;
-use rules::Request;
-use steps::Place;
-use steps::Program;
-use steps::Side;
-use steps::Team;
+use rules::{Answer, Node, Request};
+use steps::{Place, Program, Side, Team};
 
 // A number past the largest signed one becomes the largest, and no team asks for such a one.
 fn request_of(kind: u32, number: u32, node: u32, position: i32, amount: u32) -> Request
-    ensures { λ q. ⌜ q ≡ plain (signed kind) (signed number) (signed node) position (signed amount) ⌝ }
+    ensures { result ≡ plain (signed kind) (signed number) (signed node) position (signed amount) }
 {
     let k = numbers::to_signed(kind);
     let t = numbers::to_signed(number);
@@ -32,7 +25,7 @@ fn request_of(kind: u32, number: u32, node: u32, position: i32, amount: u32) -> 
 }
 
 pub fn has_stopped(p: Place) -> bool
-    ensures { λ r. ⌜ r ≡ isStopped p ⌝ }
+    ensures { result ≡ is_stopped p }
 {
     match p {
         Place::Seek => false,
@@ -47,7 +40,7 @@ pub fn has_stopped(p: Place) -> bool
 
 // The request that a team makes at its place. One that has stopped makes none, which is a request of kind 0.
 pub fn asks_of(number: u32, t: Team) -> Request
-    ensures { λ q. ⌜ q ≡ clippedAsks number t ⌝ }
+    ensures { result ≡ clipped_asks number t }
 {
     let n = t.node;
     let place = t.place;
@@ -63,14 +56,14 @@ pub fn asks_of(number: u32, t: Team) -> Request
 }
 
 pub(crate) fn is_stealable(number: u32, a: Answer) -> bool
-    ensures { λ r. ⌜ r ≡ stealable number a ⌝ }
+    ensures { result ≡ stealable number a }
 {
     (a.state == Node::OWNED) & !(a.owner == number)
 }
 
 // An OWNED node of another team is marked, and the team's own is passed.
 fn owned_moves(number: u32, t: Team, a: Answer) -> Team
-    ensures { λ r. ⌜ r ≡ cond (stealable number a) (mark (clippedTeam t) (clippedTeam t .node) (a .«from»)) (onward (clippedTeam t)) ⌝ }
+    ensures { result ≡ cond (stealable number a) (mark (clipped_team t) (clipped_team t).node a.«from») (onward (clipped_team t)) }
 {
     if is_stealable(number, a) {
         records::mark_here(t, a.from)
@@ -80,7 +73,7 @@ fn owned_moves(number: u32, t: Team, a: Answer) -> Team
 }
 
 fn sight_moves(number: u32, t: Team, a: Answer) -> Team
-    ensures { λ r. ⌜ r ≡ sightMoves number (clippedTeam t) a ⌝ }
+    ensures { result ≡ sight_moves number (clipped_team t) a }
 {
     let state = a.state;
     match state {
@@ -92,7 +85,7 @@ fn sight_moves(number: u32, t: Team, a: Answer) -> Team
 }
 
 fn seek_moves(number: u32, t: Team, a: Answer) -> Team
-    ensures { λ r. ⌜ r ≡ seekMoves number (clippedTeam t) a ⌝ }
+    ensures { result ≡ seek_moves number (clipped_team t) a }
 {
     let code = a.code;
     match code {
@@ -102,7 +95,7 @@ fn seek_moves(number: u32, t: Team, a: Answer) -> Team
 }
 
 fn take_moves(t: Team, a: Answer) -> Team
-    ensures { λ r. ⌜ r ≡ takeMoves (clippedTeam t) a ⌝ }
+    ensures { result ≡ take_moves (clipped_team t) a }
 {
     let code = a.code;
     match code {
@@ -113,7 +106,7 @@ fn take_moves(t: Team, a: Answer) -> Team
 
 // An OWNED node is claimed by its owner alone.
 fn held_moves(number: u32, t: Team, a: Answer) -> Team
-    ensures { λ r. ⌜ r ≡ cond (eqb (a .owner) number) (claim (clippedTeam t) (clippedTeam t .node) (a .«from»)) (again t) ⌝ }
+    ensures { result ≡ cond (eqb a.owner number) (claim (clipped_team t) (clipped_team t).node a.«from») (again t) }
 {
     if a.owner == number {
         records::claim_here(t, a.from)
@@ -123,7 +116,7 @@ fn held_moves(number: u32, t: Team, a: Answer) -> Team
 }
 
 fn work_moves(number: u32, t: Team, a: Answer) -> Team
-    ensures { λ r. ⌜ r ≡ workMoves number (clippedTeam t) (clippedAnswer a) ⌝ }
+    ensures { result ≡ work_moves number (clipped_team t) (clipped_answer a) }
 {
     let state = a.state;
     match state {
@@ -136,14 +129,14 @@ fn work_moves(number: u32, t: Team, a: Answer) -> Team
 
 // The lesser of 2 × size and cap. The size is doubled only where that does not pass the cap, so no size can make it wrap.
 fn grown_size(cap: u32, t: Team) -> u32
-    ensures { λ k. ⌜ k ≡ grownSize cap t ⌝ }
+    ensures { result ≡ grown_size cap t }
 {
     let size = t.size;
     if size <= cap / 2 { 2 * size } else { cap }
 }
 
 fn claim_moves(cap: u32, t: Team, a: Answer) -> Team
-    ensures { λ r. ⌜ r ≡ claimMoves cap (clippedTeam t) a ⌝ }
+    ensures { result ≡ claim_moves cap (clipped_team t) a }
 {
     let code = a.code;
     match code {
@@ -154,7 +147,7 @@ fn claim_moves(cap: u32, t: Team, a: Answer) -> Team
 }
 
 fn mark_moves(t: Team, a: Answer) -> Team
-    ensures { λ r. ⌜ r ≡ markMoves (clippedTeam t) a ⌝ }
+    ensures { result ≡ mark_moves (clipped_team t) a }
 {
     let code = a.code;
     match code {
@@ -167,7 +160,7 @@ fn mark_moves(t: Team, a: Answer) -> Team
 // ---- by the record's program
 
 fn search_seek(number: u32, t: Team, a: Answer) -> Team
-    ensures { λ r. ⌜ r ≡ searchOf t .seeking number (clippedTeam t) (clippedAnswer a) ⌝ }
+    ensures { result ≡ (search_of t).seeking number (clipped_team t) (clipped_answer a) }
 {
     let program = t.program;
     match program {
@@ -177,7 +170,7 @@ fn search_seek(number: u32, t: Team, a: Answer) -> Team
 }
 
 fn search_mark(t: Team, a: Answer) -> Team
-    ensures { λ r. ⌜ r ≡ searchOf t .marking (clippedTeam t) (clippedAnswer a) ⌝ }
+    ensures { result ≡ (search_of t).marking (clipped_team t) (clipped_answer a) }
 {
     let program = t.program;
     match program {
@@ -188,7 +181,7 @@ fn search_mark(t: Team, a: Answer) -> Team
 
 // A team that comes second to a split is told where the children are, as the first is.
 fn split_moves(t: Team, a: Answer) -> Team
-    ensures { λ r. ⌜ r ≡ splitMoves (clippedTeam t) (clippedAnswer a) ⌝ }
+    ensures { result ≡ split_moves (clipped_team t) (clipped_answer a) }
 {
     let side = t.side;
     let code = a.code;
@@ -200,7 +193,7 @@ fn split_moves(t: Team, a: Answer) -> Team
 
 // Where an answer sends a team from its place.
 pub fn moves_of(number: u32, cap: u32, t: Team, a: Answer) -> Team
-    ensures { λ r. ⌜ r ≡ clippedMoves number cap t a ⌝ }
+    ensures { result ≡ clipped_moves number cap t a }
 {
     let place = t.place;
     match place {

@@ -1,114 +1,114 @@
 -- The worked examples, by computation. That each ledger on the way is well formed is a theorem: only the tests are computed.
-use mathlib.Core.Path.{_≡_, refl, ap, _∙_}
-use mathlib.Core.Logic.{_≢_}
-use mathlib.Core.Bool.{Bool, true, _&&_}
-use mathlib.Core.List.{List, [], _∷_}
+use mathlib.Core.Path.{◌≡◌, refl, ap, ◌∙◌}
+use mathlib.Core.Logic.{◌≢◌}
+use mathlib.Core.Bool.{Bool, true, ◌&&◌}
+use mathlib.Core.List.{List, [], ◌∷◌}
 use Prim.Native.Nat.{ℕ}
 use native.Mathlib.Omega.{arith}
 use lib.Dec.{eqb}
 use lib.ListN.{length}
-use Rattle·numbers.specs.Fields.{natOf}
-use Rattle·rules.specs.declared.Ledger.{Ledger}
-use Rattle·rules.specs.declared.Request.{Request}
-use Rattle·rules.specs.Joining.{sameFinds, reportable, joinAll, join}
-use Rattle·rules.specs.Limits.{opens}
-use Rattle·rules.specs.Nodes.{usedOf, middle, leftPart, rightPart, joinedOf}
-use Rattle·rules.specs.Opening.{opened, opening, ledgerOf}
-use Rattle·rules.specs.Refusals.{ownCode, advanceCode, markCode, expandCode, reportCode, pushCode, kindCode, refusal}
-use Rattle·rules.specs.Requests.{owning, batchEnd, advancing, marking, expanding, reporting, pushing, granted, decided, view, changed, answered}
-use Rattle·rules.specs.States.{stateOf, stolenOf, unready, overfull, ended}
-use Rattle·rules.specs.Table.{at, put, freeFrom, nextPair, grown, sumBy, stolenIn, takenIn}
-use Rattle·rules.specs.WellFormed.{upTo}
-use Rattle·rules.proofs.Keeps.{requested-wf, wf-answered}
-use Rattle·rules.proofs.Opens.{opened-wf}
-use Rattle·rules.proofs.Record.{WF}
-use Rattle·laws.specs.Listing.{afterAll}
-use Rattle·reachable·specs.specs.Batches.{batchSize, batchCount, claims}
-use Rattle·reachable·specs.specs.Earlier.{emptiesPushed, strengthened}
-use Rattle·reachable·specs.specs.Examples.{Example, Replayed, stolenRight, threeBatches, waiting, lastSheetPushed, Examples, smallBatches, otherTeams, twoRefused, Another, OtherHistories, OthersKeptOut}
-use Rattle·reachable·specs.specs.History.{openingFor, parts, pairs, ascending, descending, nodesMade, reportsMade, history}
-use Rattle·reachable·specs.specs.Parents.{slotAbove}
-use Rattle·reachable·specs.specs.Replay.{allGranted}
-use Rattle·reachable·specs.specs.Work.{works, otherThan, steals, hasReport, wasPushed, worksLeaf, stealsLeaf, reports, pushes}
+use Rattle.numbers.specs.Fields.{nat_of}
+use Rattle.rules.specs.declared.Ledger.{Ledger}
+use Rattle.rules.specs.declared.Request.{Request}
+use Rattle.rules.specs.Joining.{same_finds, reportable, join_all, join}
+use Rattle.rules.specs.Limits.{opens}
+use Rattle.rules.specs.Nodes.{used_of, middle, left_part, right_part, joined_of}
+use Rattle.rules.specs.Opening.{opened, opening, ledger_of}
+use Rattle.rules.specs.Refusals.{own_code, advance_code, mark_code, expand_code, report_code, push_code, kind_code, refusal}
+use Rattle.rules.specs.Requests.{owning, batch_end, advancing, marking, expanding, reporting, pushing, granted, decided, view, changed, answered}
+use Rattle.rules.specs.States.{state_of, stolen_of, unready, overfull, ended}
+use Rattle.rules.specs.Table.{at, put, free_from, next_pair, grown, sum_by, stolen_in, taken_in}
+use Rattle.rules.specs.WellFormed.{up_to}
+use Rattle.rules.proofs.Keeps.{requested_wf, wf_answered}
+use Rattle.rules.proofs.Opens.{opened_wf}
+use Rattle.rules.proofs.Record.{WF}
+use Rattle.laws.specs.Listing.{after_all}
+use Rattle.reachable.specs.Batches.{batch_size, batch_count, claims}
+use Rattle.reachable.specs.Earlier.{empties_pushed, strengthened}
+use Rattle.reachable.specs.Examples.{Example, Replayed, stolen_right, three_batches, waiting, last_sheet_pushed, Examples, small_batches, other_teams, two_refused, Another, OtherHistories, OthersKeptOut}
+use Rattle.reachable.specs.History.{opening_for, parts, pairs, ascending, descending, nodes_made, reports_made, history}
+use Rattle.reachable.specs.Parents.{slot_above}
+use Rattle.reachable.specs.Replay.{all_granted}
+use Rattle.reachable.specs.Work.{works, other_than, steals, has_report, was_pushed, works_leaf, steals_leaf, reports, pushes}
 
 -- ---- a list on a well-formed ledger, each request answered by its own tests
 
 unfoldable played : Ledger → List Request → Ledger
 played l [] = l
-played l (r ∷ rs) = played (answered l r .ledger) rs
+played l (r ∷ rs) = played (answered l r).ledger rs
 
 unfoldable cleared : Ledger → List Request → Bool
 cleared l [] = true
-cleared l (r ∷ rs) = eqb (answered l r .answer .code) 0 && cleared (answered l r .ledger) rs
+cleared l (r ∷ rs) = eqb (answered l r).answer.code 0 && cleared (answered l r).ledger rs
 
-played-is : (l : Ledger) (rs : List Request) → WF l → afterAll l rs ≡ played l rs
-unfolding afterAll played
-played-is l [] w = refl
-played-is l (r ∷ rs) w = rw (requested-wf l r w) (played-is (answered l r .ledger) rs (wf-answered l r w))
+played_is : (l : Ledger) (rs : List Request) → WF l → after_all l rs ≡ played l rs
+unfolding after_all played
+played_is l [] w = refl
+played_is l (r ∷ rs) w = rw (requested_wf l r w) (played_is (answered l r).ledger rs (wf_answered l r w))
 
-cleared-is : (l : Ledger) (rs : List Request) → WF l → allGranted l rs ≡ cleared l rs
-unfolding allGranted cleared
-cleared-is l [] w = refl
-cleared-is l (r ∷ rs) w = rw (requested-wf l r w, cleared-is (answered l r .ledger) rs (wf-answered l r w))
+cleared_is : (l : Ledger) (rs : List Request) → WF l → all_granted l rs ≡ cleared l rs
+unfolding all_granted cleared
+cleared_is l [] w = refl
+cleared_is l (r ∷ rs) w = rw (requested_wf l r w, cleared_is (answered l r).ledger rs (wf_answered l r w))
 
 -- ---- an example
 
-module _ (x : Example) (good : opens (openingFor (x .ledger)) ≡ true) where
+module _ (x : Example) (good : opens (opening_for x.ledger) ≡ true) where
   abbrev new : Ledger
-  new = ledgerOf (openingFor (x .ledger))
+  new = ledger_of (opening_for x.ledger)
 
   well : WF new
-  well = opened-wf (openingFor (x .ledger)) good
+  well = opened_wf (opening_for x.ledger) good
 
   abbrev list : List Request
-  list = history (x .ledger)
+  list = history x.ledger
 
-  replayed : played new list ≡ x .ledger → cleared new list ≡ true → list ≡ x .listed → Replayed x
+  replayed : played new list ≡ x.ledger → cleared new list ≡ true → list ≡ x.listed → Replayed x
   unfolding opening
   replayed end clear is =
       record {
-        ends = rw good (played-is new list well ∙ end);
-        granted = rw good (cleared-is new list well ∙ clear);
+        ends = rw good (played_is new list well ∙ end);
+        granted = rw good (cleared_is new list well ∙ clear);
         listed = is;
       }
 
-pub worked-examples : Examples
-unfolding played cleared opens opened middle leftPart rightPart joinedOf joinAll join reportable stateOf stolenOf sameFinds usedOf unready overfull ended at put freeFrom nextPair grown sumBy stolenIn takenIn ownCode advanceCode markCode expandCode reportCode pushCode kindCode refusal owning batchEnd advancing marking expanding reporting pushing granted decided view changed answered batchSize batchCount claims works otherThan steals hasReport wasPushed worksLeaf stealsLeaf reports pushes slotAbove parts pairs ascending descending nodesMade reportsMade history
-worked-examples =
+pub worked_examples : Examples
+unfolding played cleared opens opened middle left_part right_part joined_of join_all join reportable state_of stolen_of same_finds used_of unready overfull ended at put free_from next_pair grown sum_by stolen_in taken_in own_code advance_code mark_code expand_code report_code push_code kind_code refusal owning batch_end advancing marking expanding reporting pushing granted decided view changed answered batch_size batch_count claims works other_than steals has_report was_pushed works_leaf steals_leaf reports pushes slot_above parts pairs ascending descending nodes_made reports_made history
+worked_examples =
     record {
-      stolen-right = replayed stolenRight refl refl refl refl;
-      three-batches = replayed threeBatches refl refl refl refl;
-      as-long-as-any = refl;
-      still-waiting = replayed waiting refl refl refl refl;
-      last-sheet-pushed = replayed lastSheetPushed refl refl refl refl;
+      stolen_right_lem = replayed stolen_right refl refl refl refl;
+      three_batches_lem = replayed three_batches refl refl refl refl;
+      as_long_as_any = refl;
+      still_waiting = replayed waiting refl refl refl refl;
+      last_sheet_pushed_lem = replayed last_sheet_pushed refl refl refl refl;
     }
 
 -- ---- other lists that end in the same ledgers
 
-module _ (x : Example) (good : opens (openingFor (x .ledger)) ≡ true) (rs : List Request) where
-  another-one : played (new x good) rs ≡ x .ledger → history (x .ledger) ≢ rs → Another (x .ledger) rs
+module _ (x : Example) (good : opens (opening_for x.ledger) ≡ true) (rs : List Request) where
+  another_one : played (new x good) rs ≡ x.ledger → history x.ledger ≢ rs → Another x.ledger rs
   unfolding opening
-  another-one end ne = record { ends = rw good (played-is (new x good) rs (well x good) ∙ end); another = ne }
+  another_one end ne = record { ends = rw good (played_is (new x good) rs (well x good) ∙ end); another = ne }
 
 -- two lists are told apart by their lengths, or by the team of the third request
-thirdTeam : List Request → ℕ
-thirdTeam [] = 0
-thirdTeam (p ∷ []) = 0
-thirdTeam (p ∷ q ∷ []) = 0
-thirdTeam (p ∷ q ∷ r ∷ rs) = natOf (r .team)
+third_team : List Request → ℕ
+third_team [] = 0
+third_team (p ∷ []) = 0
+third_team (p ∷ q ∷ []) = 0
+third_team (p ∷ q ∷ r ∷ rs) = nat_of r.team
 
-pub other-histories : OtherHistories
-unfolding played thirdTeam opens opened middle leftPart rightPart joinedOf joinAll join reportable stateOf stolenOf sameFinds usedOf unready overfull ended at put freeFrom nextPair grown sumBy stolenIn takenIn ownCode advanceCode markCode expandCode reportCode pushCode kindCode refusal owning batchEnd advancing marking expanding reporting pushing granted decided view changed answered batchSize batchCount claims works otherThan steals hasReport wasPushed worksLeaf stealsLeaf reports pushes slotAbove parts pairs ascending descending nodesMade reportsMade history
-other-histories =
+pub other_histories : OtherHistories
+unfolding played third_team opens opened middle left_part right_part joined_of join_all join reportable state_of stolen_of same_finds used_of unready overfull ended at put free_from next_pair grown sum_by stolen_in taken_in own_code advance_code mark_code expand_code report_code push_code kind_code refusal owning batch_end advancing marking expanding reporting pushing granted decided view changed answered batch_size batch_count claims works other_than steals has_report was_pushed works_leaf steals_leaf reports pushes slot_above parts pairs ascending descending nodes_made reports_made history
+other_histories =
     record {
-      small-batches = another-one stolenRight refl smallBatches refl (λ e. let z : _≡_ {A = ℕ} 7 8 = ap length e in omega arith);
-      other-teams = another-one waiting refl otherTeams refl (λ e. let z : _≡_ {A = ℕ} 1 2 = ap thirdTeam e in omega arith);
-      two-refused = another-one lastSheetPushed refl twoRefused refl (λ e. let z : _≡_ {A = ℕ} 10 12 = ap length e in omega arith);
+      small_batches_lem = another_one stolen_right refl small_batches refl (λ e. let z : ◌≡◌ {A = ℕ} 7 8 = ap length e in omega arith);
+      other_teams_lem = another_one waiting refl other_teams refl (λ e. let z : ◌≡◌ {A = ℕ} 1 2 = ap third_team e in omega arith);
+      two_refused_lem = another_one last_sheet_pushed refl two_refused refl (λ e. let z : ◌≡◌ {A = ℕ} 10 12 = ap length e in omega arith);
     }
 
 -- ---- and ledgers that none ends in
 
 -- a rule that fails first is not computed further
-pub others-kept-out : OthersKeptOut
-unfolding strengthened emptiesPushed upTo at sameFinds
-others-kept-out = (record { apart = refl }, (record { apart = refl }, (record { apart = refl }, tt)))
+pub others_kept_out : OthersKeptOut
+unfolding strengthened empties_pushed up_to at same_finds
+others_kept_out = (record { apart = refl }, (record { apart = refl }, (record { apart = refl }, tt)))

@@ -1,52 +1,52 @@
 -- The ledger that a fold leaves, by computation.
-use mathlib.Core.Path.{_≡_, refl, sym, _∙_}
+use mathlib.Core.Path.{◌≡◌, refl, sym, ◌∙◌}
 use mathlib.Core.Bool.{true, false, true≢false}
-use Rattle·rules.specs.declared.Opening.{Opening}
-use Rattle·rules.specs.Earlier.{nodeRuleBefore, childRuleBefore, stageRuleBefore, wellFormedBefore}
-use Rattle·rules.specs.Joining.{sameFinds, reportable, joinAll, join}
-use Rattle·rules.specs.Limits.{opens}
-use Rattle·rules.specs.Nodes.{usedOf, middle, leftPart, rightPart, joinedOf}
-use Rattle·rules.specs.Opening.{opened, opening, ledgerOf}
-use Rattle·rules.specs.Refusals.{ownCode, advanceCode, markCode, expandCode, reportCode, pushCode, foldCode, kindCode, refusal}
-use Rattle·rules.specs.Requests.{owning, batchEnd, advancing, marking, expanding, reporting, pushing, folding, granted, decided, view, changed, answered}
-use Rattle·rules.specs.States.{stateOf, stolenOf, unready, overfull, ended}
-use Rattle·rules.specs.Table.{at, put, freeFrom, nextPair, grown, sumBy, stolenIn, takenIn}
-use Rattle·rules.specs.WellFormed.{upTo, aloneRule, Sound}
-use Rattle·rules.proofs.Opens.{opened-wf}
-use Rattle·laws.specs.Listing.{reached}
-use Rattle·laws.proofs.Played.{played, played-is}
-use Rattle·reachable·specs.specs.Folded.{afterFold, withFold, OnlyByFold}
-use Rattle·reachable·specs.specs.History.{openingFor}
-use Rattle·reachable·proofs.proofs.Demands.{lists-keep-well-formed, well-formed-means-real}
+use Rattle.rules.specs.declared.Opening.{Opening}
+use Rattle.rules.specs.Earlier.{node_rule_before, child_rule_before, stage_rule_before, well_formed_before}
+use Rattle.rules.specs.Joining.{same_finds, reportable, join_all, join}
+use Rattle.rules.specs.Limits.{opens}
+use Rattle.rules.specs.Nodes.{used_of, middle, left_part, right_part, joined_of}
+use Rattle.rules.specs.Opening.{opened, opening, ledger_of}
+use Rattle.rules.specs.Refusals.{own_code, advance_code, mark_code, expand_code, report_code, push_code, fold_code, kind_code, refusal}
+use Rattle.rules.specs.Requests.{owning, batch_end, advancing, marking, expanding, reporting, pushing, folding, granted, decided, view, changed, answered}
+use Rattle.rules.specs.States.{state_of, stolen_of, unready, overfull, ended}
+use Rattle.rules.specs.Table.{at, put, free_from, next_pair, grown, sum_by, stolen_in, taken_in}
+use Rattle.rules.specs.WellFormed.{up_to, alone_rule, Sound}
+use Rattle.rules.proofs.Opens.{opened_wf}
+use Rattle.laws.specs.Listing.{reached}
+use Rattle.laws.proofs.Played.{played, played_is}
+use Rattle.reachable.specs.Folded.{after_fold, with_fold, OnlyByFold}
+use Rattle.reachable.specs.History.{opening_for}
+use Rattle.reachable.proofs.Demands.{lists_keep_well_formed, well_formed_means_real}
 
 abbrev first : Opening
-first = openingFor afterFold
+first = opening_for after_fold
 
-played-there : played (ledgerOf first) withFold ≡ afterFold
-unfolding played opened middle leftPart rightPart joinedOf joinAll join reportable stateOf stolenOf sameFinds usedOf unready overfull ended at put freeFrom nextPair grown sumBy stolenIn takenIn ownCode advanceCode markCode expandCode reportCode pushCode foldCode kindCode refusal owning batchEnd advancing marking expanding reporting pushing folding granted decided view changed answered
-played-there = refl
+played_there : played (ledger_of first) with_fold ≡ after_fold
+unfolding played opened middle left_part right_part joined_of join_all join reportable state_of stolen_of same_finds used_of unready overfull ended at put free_from next_pair grown sum_by stolen_in taken_in own_code advance_code mark_code expand_code report_code push_code fold_code kind_code refusal owning batch_end advancing marking expanding reporting pushing folding granted decided view changed answered
+played_there = refl
 
-goes-there : reached first withFold ≡ afterFold
+goes_there : reached first with_fold ≡ after_fold
 unfolding opening opens
-goes-there = played-is (ledgerOf first) withFold (opened-wf first refl) ∙ played-there
+goes_there = played_is (ledger_of first) with_fold (opened_wf first refl) ∙ played_there
 
-opens-first : opening first .code ≡ 0
+opens-first : (opening first).code ≡ 0
 unfolding opening opens
 opens-first = refl
 
-not-before : wellFormedBefore afterFold ≡ false
-unfolding wellFormedBefore upTo nodeRuleBefore childRuleBefore stageRuleBefore aloneRule at opens sameFinds reportable joinedOf joinAll join unready ended
-not-before = refl
+not_before : well_formed_before after_fold ≡ false
+unfolding well_formed_before up_to node_rule_before child_rule_before stage_rule_before alone_rule at opens same_finds reportable joined_of join_all join unready ended
+not_before = refl
 
-sound-there : Sound afterFold
-sound-there = rw goes-there at (lists-keep-well-formed first withFold opens-first)
+sound_there : Sound after_fold
+sound_there = rw goes_there at (lists_keep_well_formed first with_fold opens-first)
 
-pub only-by-fold : OnlyByFold
-only-by-fold =
+pub only_by_fold : OnlyByFold
+only_by_fold =
     record {
-      real = record { begun = first; asked = withFold; opens = opens-first; ends = goes-there };
+      real = record { begun = first; asked = with_fold; opens = opens-first; ends = goes_there };
       by = refl;
-      sound = sound-there;
-      before = not-before;
-      unfolded = λ r. true≢false (sym (well-formed-means-real afterFold (sound-there .sized) .1 r) ∙ not-before);
+      sound = sound_there;
+      before = not_before;
+      unfolded = λ r. true≢false (sym ((well_formed_means_real after_fold sound_there.sized).1 r) ∙ not_before);
     }

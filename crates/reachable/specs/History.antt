@@ -1,24 +1,22 @@
 -- A history of a ledger: an opening, and a list of requests that ends in the ledger. It is one of many, made from the ledger alone.
-use Prim.Native.Nat.{ℕ, zero, suc, _+_, _*_, _/_}
-use mathlib.Core.List.{List, [], _++_}
-use lib.IntN.{pos}
-use Rattle·rules.specs.declared.Node.{Node}
-use Rattle·rules.specs.declared.Ledger.{Ledger}
-use Rattle·rules.specs.declared.Opening.{Opening}
-use Rattle·rules.specs.declared.Request.{Request}
-use Rattle·rules.specs.Table.{at}
-use Rattle·reachable·specs.specs.Parents.{parentOf}
-use Rattle·reachable·specs.specs.Work.{works, steals, splits, worksLeaf, stealsLeaf, reports, pushes}
+use Rattle.std.specs.Prelude.{ℕ, zero, suc, ◌+◌, ◌*◌, ◌/◌, List, [], ◌++◌, pos}
+use Rattle.rules.specs.declared.Node.{Node}
+use Rattle.rules.specs.declared.Ledger.{Ledger}
+use Rattle.rules.specs.declared.Opening.{Opening}
+use Rattle.rules.specs.declared.Request.{Request}
+use Rattle.rules.specs.Table.{at}
+use Rattle.reachable.specs.Parents.{parent_of}
+use Rattle.reachable.specs.Work.{works, steals, splits, works_leaf, steals_leaf, reports, pushes}
 
 -- a ledger has no cap: that of the least run stands in
-abbrev pub openingFor : Ledger → Opening
-openingFor l =
+abbrev pub opening_for : Ledger → Opening
+opening_for l =
     record {
-      start = pos (l .start);
-      until = pos (l .until);
-      teams = pos (l .teams);
+      start = pos l.start;
+      until = pos l.until;
+      teams = pos l.teams;
       cap = pos 1;
-      nodes = pos (l .room);
+      nodes = pos l.room;
     }
 
 -- ---- the pairs, ascending, since a split takes the next two slots
@@ -30,7 +28,7 @@ parts n x = works n x ++ (steals n x ++ splits n)
 -- the first k pairs, each by its parent
 unfoldable pub pairs : Ledger → ℕ → List Request
 pairs l zero = []
-pairs l (suc k) = pairs l k ++ parts (parentOf l (2 * k + 2)) (at l (parentOf l (2 * k + 2)))
+pairs l (suc k) = pairs l k ++ parts (parent_of l (2 * k + 2)) (at l (parent_of l (2 * k + 2)))
 
 -- ---- what is asked of each of the nodes 1 to k
 
@@ -45,16 +43,16 @@ descending asks l (suc k) = asks (suc k) (at l (suc k)) ++ descending asks l k
 -- ---- the whole list
 
 -- every pair is made, from node 2 to the last number in use
-abbrev pub pairCount : Ledger → ℕ
-pairCount l = l .used / 2
+abbrev pub pair_count : Ledger → ℕ
+pair_count l = l.used / 2
 
 -- once all nodes stand: those without children are worked on, then the STOLEN ones are marked
-unfoldable pub nodesMade : Ledger → List Request
-nodesMade l = pairs l (pairCount l) ++ (ascending worksLeaf l (l .used) ++ ascending stealsLeaf l (l .used))
+unfoldable pub nodes_made : Ledger → List Request
+nodes_made l = pairs l (pair_count l) ++ (ascending works_leaf l l.used ++ ascending steals_leaf l l.used)
 
 -- reports come before pushes; children have greater numbers than their parent and are pushed before it
-unfoldable pub reportsMade : Ledger → List Request
-reportsMade l = ascending reports l (l .used) ++ descending pushes l (l .used)
+unfoldable pub reports_made : Ledger → List Request
+reports_made l = ascending reports l l.used ++ descending pushes l l.used
 
 unfoldable pub history : Ledger → List Request
-history l = nodesMade l ++ reportsMade l
+history l = nodes_made l ++ reports_made l

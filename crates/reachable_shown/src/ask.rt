@@ -1,6 +1,5 @@
 // The requests of a team on a node, of numbers that a ledger holds.
-use rules::Finds;
-use rules::Request;
+use rules::{Finds, Request};
 
 fn plain(kind: u32, team: u32, node: u32, position: u32, amount: u32) -> Request {
     Request::new(

@@ -1,8 +1,5 @@
 // Ledgers made of numbers, whatever the rules say, and read by a node's number.
-use rules::Finds;
-use rules::Ledger;
-use rules::Node;
-use rules::Opening;
+use rules::{Finds, Ledger, Node, Opening};
 
 // The largest number of nodes that is shown.
 pub(crate) const SMALL: u32 = 7;

@@ -5,6 +5,7 @@ use rules::Request;
 // The longest list that is shown.
 pub(crate) const LONG: usize = 64;
 
+#[derive(Drop)]
 pub(crate) struct Calls {
     pub(crate) items: [Request; LONG],
     pub(crate) count: usize,

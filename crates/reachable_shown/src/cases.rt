@@ -1,10 +1,7 @@
 // The ledgers that are shown: a new one, those of the worked examples in reachable/specs, a tree of seven nodes, an empty one, and three that no
 // requests make.
-use crate::book;
-use crate::replay;
-use rules::Finds;
-use rules::Ledger;
-use rules::Node;
+use crate::{book, replay};
+use rules::{Finds, Ledger, Node};
 
 fn new() -> Ledger {
     book::bound(0, 5, 2, 7, 1)

@@ -1,13 +1,8 @@
 // A history of a ledger, written after the definition in reachable/specs: the pairs by their parents, the nodes without children, the marks of the
 // STOLEN ones, the reports, and the pushes from the last node to the first.
-use crate::ask;
-use crate::book;
-use crate::calls;
 use crate::calls::Calls;
-use rules::Ledger;
-use rules::Node;
-use rules::Opening;
-use rules::Request;
+use crate::{ask, book, calls};
+use rules::{Ledger, Node, Opening, Request};
 
 // Any team may split and push.
 const ANY: u32 = 1;

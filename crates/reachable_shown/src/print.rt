@@ -1,9 +1,6 @@
 // Prints words, numbers, nodes and requests, a space before every number.
 use libc::STDOUT_FILENO;
-use rules::Finds;
-use rules::Ledger;
-use rules::Node;
-use rules::Request;
+use rules::{Finds, Ledger, Node, Request};
 
 pub(crate) fn text(s: &[u8]) {
     io::write_all(STDOUT_FILENO, s);

@@ -1,12 +1,7 @@
 // A history played through the public calls, and what comes out beside the ledger that it is of.
-use crate::book;
-use crate::calls;
 use crate::calls::Calls;
-use crate::history;
-use crate::print;
-use crate::same;
-use rules::Ledger;
-use rules::Request;
+use crate::{book, calls, history, print, same};
+use rules::{Ledger, Request};
 
 fn called(l: Ledger, r: Request) -> Ledger {
     let done = ledger::request(l, r);

@@ -1,8 +1,5 @@
 // Whether two ledgers are the same, number by number, in every slot.
-use rules::Finds;
-use rules::Ledger;
-use rules::Node;
-use rules::Opening;
+use rules::{Finds, Ledger, Node, Opening};
 
 fn finds(a: Finds, b: Finds) -> bool {
     (a.count == b.count) & (a.first == b.first) & (a.last == b.last)

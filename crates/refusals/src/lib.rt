@@ -1,72 +1,71 @@
 // The refusals: each request's tests in the order of document 01's table. The last test is written first, since each line gives what the later ones leave.
-ghost use mathlib.Core.Path.{_≡_};
-ghost use Rattle·numbers.specs.Fields.{within, isNat, sameNumber};
-ghost use Rattle·rules.specs.Asks.{lastKind};
-ghost use Rattle·rules.specs.Joining.{reportable};
-ghost use Rattle·rules.specs.Limits.{maxAmount};
-ghost use Rattle·rules.specs.Refusals.{noRoom, ownCode, advanceCode, markCode, expandCode, reportCode, pushCode, foldCode, kindCode, refusal};
-use rules::Node;
-use rules::Request;
-use rules::View;
+ghost use Rattle.std.specs.Prelude.{◌≡◌};
+ghost use Rattle.numbers.specs.Fields.{within, is_nat, same_number};
+ghost use Rattle.rules.specs.Asks.{last_kind};
+ghost use Rattle.rules.specs.Joining.{reportable};
+ghost use Rattle.rules.specs.Limits.{max_amount};
+ghost use Rattle.rules.specs.Refusals.{no_room, own_code, advance_code, mark_code, expand_code, report_code, push_code, fold_code, kind_code, refusal};
+
+use rules::{Node, Request, View};
 
 fn good_kind(r: Request) -> bool
-    ensures { λ b. ⌜ b ≡ within (r .kind) 1 lastKind ⌝ }
+    ensures { result ≡ within r.kind 1 last_kind }
 {
     numbers::in_range(r.kind, 1, Request::LAST)
 }
 
 fn good_team(r: Request, teams: u32) -> bool
-    ensures { λ b. ⌜ b ≡ within (r .team) 1 teams ⌝ }
+    ensures { result ≡ within r.team 1 teams }
 {
     numbers::in_range(r.team, 1, teams)
 }
 
 fn good_node(r: Request, used: u32) -> bool
-    ensures { λ b. ⌜ b ≡ within (r .node) 1 used ⌝ }
+    ensures { result ≡ within r.node 1 used }
 {
     numbers::in_range(r.node, 1, used)
 }
 
 fn good_amount(r: Request) -> bool
-    ensures { λ b. ⌜ b ≡ within (r .amount) 1 maxAmount ⌝ }
+    ensures { result ≡ within r.amount 1 max_amount }
 {
     numbers::in_range(r.amount, 1, Request::AMOUNT)
 }
 
 fn by_owner(x: Node, r: Request) -> bool
-    ensures { λ b. ⌜ b ≡ isNat (r .team) (x .owner) ⌝ }
+    ensures { result ≡ is_nat r.team x.owner }
 {
     numbers::is_number(r.team, x.owner)
 }
 
 fn at_progress(x: Node, r: Request) -> bool
-    ensures { λ b. ⌜ b ≡ sameNumber (r .position) (x .progress) ⌝ }
+    ensures { result ≡ same_number r.position x.progress }
 {
     numbers::same_number(r.position, x.progress)
 }
 
 fn good_report(r: Request) -> bool
-    ensures { λ b. ⌜ b ≡ reportable (r .count) (r .first) (r .last) ⌝ }
+    ensures { result ≡ reportable r.count r.first r.last }
 {
     finds::is_reportable(r.count, r.first, r.last)
 }
 
 // The sums are taken in 64 bits, where no number of a view can make them wrap.
-fn no_room(v: View) -> bool
-    ensures { λ b. ⌜ b ≡ noRoom v ⌝ }
+fn no_room_lem(v: View) -> bool
+    ensures { result ≡ no_room v }
 {
     (v.room as u64) < (v.taken as u64) + 2 * (v.stolen as u64) + 2
 }
 
 fn own_code(x: Node) -> u32
-    ensures { λ c. ⌜ c ≡ ownCode x ⌝ }
+    ensures { result ≡ own_code x }
 {
     let c6 = numbers::pick(nodes::is_completed(x), 6, 0);
     numbers::pick(!nodes::is_unowned(x), 5, c6)
 }
 
 fn advance_code(x: Node, r: Request) -> u32
-    ensures { λ c. ⌜ c ≡ advanceCode x r ⌝ }
+    ensures { result ≡ advance_code x r }
 {
     let c10 = numbers::pick(!at_progress(x, r), 10, 0);
     let c6 = numbers::pick(nodes::is_completed(x), 6, c10);
@@ -76,10 +75,10 @@ fn advance_code(x: Node, r: Request) -> u32
 }
 
 fn mark_code(v: View, r: Request) -> u32
-    ensures { λ c. ⌜ c ≡ markCode v r ⌝ }
+    ensures { result ≡ mark_code v r }
 {
     let x = v.node;
-    let c14 = numbers::pick(no_room(v), 14, 0);
+    let c14 = numbers::pick(no_room_lem(v), 14, 0);
     let c10 = numbers::pick(!at_progress(x, r), 10, c14);
     let c6 = numbers::pick(nodes::is_completed(x), 6, c10);
     let c9 = numbers::pick(nodes::is_marked(x), 9, c6);
@@ -88,14 +87,14 @@ fn mark_code(v: View, r: Request) -> u32
 }
 
 fn expand_code(x: Node) -> u32
-    ensures { λ c. ⌜ c ≡ expandCode x ⌝ }
+    ensures { result ≡ expand_code x }
 {
     let c16 = numbers::pick(!nodes::is_childless(x), 16, 0);
     numbers::pick(!nodes::is_marked(x), 15, c16)
 }
 
 fn report_code(x: Node, r: Request) -> u32
-    ensures { λ c. ⌜ c ≡ reportCode x r ⌝ }
+    ensures { result ≡ report_code x r }
 {
     let c33 = numbers::pick(!good_report(r), 33, 0);
     let c32 = numbers::pick(!(x.stage == Node::UNREPORTED), 32, c33);
@@ -104,7 +103,7 @@ fn report_code(x: Node, r: Request) -> u32
 }
 
 fn push_code(v: View) -> u32
-    ensures { λ c. ⌜ c ≡ pushCode v ⌝ }
+    ensures { result ≡ push_code v }
 {
     let x = v.node;
     let c48 = numbers::pick(nodes::is_overfull(x, v.left, v.right), 48, 0);
@@ -114,7 +113,7 @@ fn push_code(v: View) -> u32
 }
 
 fn fold_code(v: View) -> u32
-    ensures { λ c. ⌜ c ≡ foldCode v ⌝ }
+    ensures { result ≡ fold_code v }
 {
     let x = v.node;
     let expanded = nodes::state_of(x) == Node::EXPANDED;
@@ -124,7 +123,7 @@ fn fold_code(v: View) -> u32
 }
 
 fn kind_code(v: View, r: Request) -> u32
-    ensures { λ c. ⌜ c ≡ kindCode v r ⌝ }
+    ensures { result ≡ kind_code v r }
 {
     let x = v.node;
     let k = numbers::natural(r.kind);
@@ -142,7 +141,7 @@ fn kind_code(v: View, r: Request) -> u32
 
 // The code of a request, 0 where it is granted.
 pub fn refusal_of(v: View, r: Request) -> u32
-    ensures { λ c. ⌜ c ≡ refusal v r ⌝ }
+    ensures { result ≡ refusal v r }
 {
     let c38 = numbers::pick(nodes::formed::blank_ok(v.node), 38, kind_code(v, r));
     let c4 = numbers::pick(!good_node(r, v.used), 4, c38);

@@ -1,16 +1,11 @@
 // What a request decides of the one node it names: its answer, and what it does to the node.
-ghost use mathlib.Core.Path.{_≡_};
-ghost use Rattle·rules.specs.Requests.{refused, refusing, ranged, split, seen, freed, outcome, owning, batchEnd, advancing, marking, expanding, looking, findsIn, reporting, pushing, folding, granted, decided};
-use rules::Answer;
-use rules::Change;
-use rules::Finds;
-use rules::Node;
-use rules::Outcome;
-use rules::Request;
-use rules::View;
+ghost use Rattle.std.specs.Prelude.{◌≡◌};
+ghost use Rattle.rules.specs.Requests.{refused, refusing, ranged, split, seen, freed, outcome, owning, batch_end, advancing, marking, expanding, looking, finds_in, reporting, pushing, folding, granted, decided};
+
+use rules::{Answer, Change, Finds, Node, Outcome, Request, View};
 
 pub fn refused_by(code: u32) -> Answer
-    ensures { λ a. ⌜ a ≡ refused code ⌝ }
+    ensures { result ≡ refused code }
 {
     Answer {
         code: code,
@@ -24,7 +19,7 @@ pub fn refused_by(code: u32) -> Answer
 
 // Code 16 tells the late splitter where the children are; any other refusal has only its code.
 fn refusing_by(v: View, code: u32) -> Answer
-    ensures { λ a. ⌜ a ≡ refusing v code ⌝ }
+    ensures { result ≡ refusing v code }
 {
     let x = v.node;
     let mid = numbers::pick(code == 16, nodes::middle_of(x), 0);
@@ -40,7 +35,7 @@ fn refusing_by(v: View, code: u32) -> Answer
 }
 
 fn range_answer(from: u32, to: u32) -> Answer
-    ensures { λ a. ⌜ a ≡ ranged «from» to ⌝ }
+    ensures { result ≡ ranged «from» to }
 {
     Answer {
         code: 0,
@@ -53,7 +48,7 @@ fn range_answer(from: u32, to: u32) -> Answer
 }
 
 fn split_answer(left: u32, mid: u32) -> Answer
-    ensures { λ a. ⌜ a ≡ split left mid ⌝ }
+    ensures { result ≡ split left mid }
 {
     Answer {
         code: 0,
@@ -66,7 +61,7 @@ fn split_answer(left: u32, mid: u32) -> Answer
 }
 
 fn look_answer(x: Node) -> Answer
-    ensures { λ a. ⌜ a ≡ seen x ⌝ }
+    ensures { result ≡ seen x }
 {
     let s = nodes::state_of(x);
     let p = nodes::position_of(x);
@@ -81,7 +76,7 @@ fn look_answer(x: Node) -> Answer
 }
 
 fn fold_answer(left: u32) -> Answer
-    ensures { λ a. ⌜ a ≡ freed left ⌝ }
+    ensures { result ≡ freed left }
 {
     Answer {
         code: 0,
@@ -94,7 +89,7 @@ fn fold_answer(left: u32) -> Answer
 }
 
 fn outcome_of(a: Answer, c: Change) -> Outcome
-    ensures { λ o. ⌜ o ≡ outcome a c ⌝ }
+    ensures { result ≡ outcome a c }
 {
     Outcome {
         answer: a,
@@ -103,7 +98,7 @@ fn outcome_of(a: Answer, c: Change) -> Outcome
 }
 
 fn own_outcome(v: View, r: Request) -> Outcome
-    ensures { λ o. ⌜ o ≡ owning v r ⌝ }
+    ensures { result ≡ owning v r }
 {
     let x = v.node;
     let team = numbers::natural(r.team);
@@ -112,7 +107,7 @@ fn own_outcome(v: View, r: Request) -> Outcome
 
 // Two signed numbers that are not negative never make an unsigned sum wrap.
 fn batch_end(x: Node, r: Request) -> u32
-    ensures { λ e. ⌜ e ≡ batchEnd x r ⌝ }
+    ensures { result ≡ batch_end x r }
 {
     let p = numbers::natural(r.position);
     let k = numbers::natural(r.amount);
@@ -120,7 +115,7 @@ fn batch_end(x: Node, r: Request) -> u32
 }
 
 fn advance_outcome(v: View, r: Request) -> Outcome
-    ensures { λ o. ⌜ o ≡ advancing v r ⌝ }
+    ensures { result ≡ advancing v r }
 {
     let x = v.node;
     let p = numbers::natural(r.position);
@@ -129,7 +124,7 @@ fn advance_outcome(v: View, r: Request) -> Outcome
 }
 
 fn mark_outcome(v: View, r: Request) -> Outcome
-    ensures { λ o. ⌜ o ≡ marking v r ⌝ }
+    ensures { result ≡ marking v r }
 {
     let x = v.node;
     let p = numbers::natural(r.position);
@@ -137,7 +132,7 @@ fn mark_outcome(v: View, r: Request) -> Outcome
 }
 
 fn expand_outcome(v: View) -> Outcome
-    ensures { λ o. ⌜ o ≡ expanding v ⌝ }
+    ensures { result ≡ expanding v }
 {
     let x = v.node;
     let pair = v.pair;
@@ -145,14 +140,14 @@ fn expand_outcome(v: View) -> Outcome
 }
 
 fn look_outcome(v: View) -> Outcome
-    ensures { λ o. ⌜ o ≡ looking v ⌝ }
+    ensures { result ≡ looking v }
 {
     let x = v.node;
     outcome_of(look_answer(x), Change::Keep)
 }
 
 fn finds_in(r: Request) -> Finds
-    ensures { λ f. ⌜ f ≡ findsIn r ⌝ }
+    ensures { result ≡ finds_in r }
 {
     let count = numbers::natural(r.count);
     let first = numbers::natural(r.first);
@@ -165,27 +160,27 @@ fn finds_in(r: Request) -> Finds
 }
 
 fn report_outcome(r: Request) -> Outcome
-    ensures { λ o. ⌜ o ≡ reporting r ⌝ }
+    ensures { result ≡ reporting r }
 {
     let f = finds_in(r);
     outcome_of(refused_by(0), Change::Report(f))
 }
 
 fn push_outcome() -> Outcome
-    ensures { λ o. ⌜ o ≡ pushing ⌝ }
+    ensures { result ≡ pushing }
 {
     outcome_of(refused_by(0), Change::Push)
 }
 
 fn fold_outcome(v: View) -> Outcome
-    ensures { λ o. ⌜ o ≡ folding v ⌝ }
+    ensures { result ≡ folding v }
 {
     let x = v.node;
     outcome_of(fold_answer(x.left), Change::Fold)
 }
 
 fn granted_by(v: View, r: Request) -> Outcome
-    ensures { λ o. ⌜ o ≡ granted v r ⌝ }
+    ensures { result ≡ granted v r }
 {
     let k = numbers::natural(r.kind);
     match k {
@@ -202,7 +197,7 @@ fn granted_by(v: View, r: Request) -> Outcome
 
 // What a request answers and does, by the one node it names.
 pub fn decide(v: View, r: Request) -> Outcome
-    ensures { λ o. ⌜ o ≡ decided v r ⌝ }
+    ensures { result ≡ decided v r }
 {
     let code = refusals::refusal_of(v, r);
     if code != 0 {

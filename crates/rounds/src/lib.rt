@@ -1,17 +1,19 @@
 // A step over the table of team records that the caller lends.
-ghost use mathlib.Core.Path.{_≡_};
-ghost use Rattle·rounds·specs.specs.Lent.{slotIn, refusedRound, outsideCode, apartStep, lentRound, lentRecords, tableStep};
+ghost use Rattle.std.specs.Prelude.{◌≡◌};
+ghost use Rattle.rounds.specs.Lent.{slot_in, refused_round, outside_code, apart_step, lent_round, lent_records, table_step};
+
 use rules::Ledger;
-use steps::Round;
-use steps::Team;
+use steps::{Round, Team};
 
 // What a step answers, and the stepping team's record after it.
+#[derive(Drop)]
 pub struct Apart {
     pub round: Round,
     pub team: Team,
 }
 
 // What a step answers, and all records after it.
+#[derive(Drop)]
 pub struct Table {
     pub round: Round,
     pub records: [Team; Team::RECORDS],
@@ -19,7 +21,7 @@ pub struct Table {
 
 // Where a team's record stands among n lent ones: nowhere, which is n, if the team is none or the records are too few.
 fn slot(l: Ledger, number: i32, n: usize) -> usize
-    ensures { λ r. ⌜ r ≡ slotIn l number n ⌝ }
+    ensures { result ≡ slot_in l number n }
 {
     if numbers::in_range(number, 1, l.teams) {
         if n < l.teams as usize {
@@ -31,7 +33,7 @@ fn slot(l: Ledger, number: i32, n: usize) -> usize
 }
 
 fn outside_code(l: Ledger, number: i32, n: usize) -> u32
-    ensures { λ c. ⌜ c ≡ outsideCode l number n ⌝ }
+    ensures { result ≡ outside_code l number n }
 {
     let c18 = numbers::pick(n < l.teams as usize, 18, 0);
     let c3 = numbers::pick(!numbers::in_range(number, 1, l.teams), 3, c18);
@@ -39,7 +41,7 @@ fn outside_code(l: Ledger, number: i32, n: usize) -> u32
 }
 
 fn refused_round(l: Ledger, number: i32, n: usize) -> Round
-    ensures { λ r. ⌜ r ≡ refusedRound l number n ⌝ }
+    ensures { result ≡ refused_round l number n }
 {
     let code = outside_code(l, number, n);
     let answer = requests::refused_by(code);
@@ -52,7 +54,7 @@ fn refused_round(l: Ledger, number: i32, n: usize) -> Round
 }
 
 fn step_one(l: Ledger, number: i32, cap: i32, t: Team) -> Apart
-    ensures { λ r. ⌜ r ≡ apartStep l number cap t ⌝ }
+    ensures { result ≡ apart_step l number cap t }
 {
     let s = teams::step(l, number, cap, t);
     let next = s.ledger;
@@ -73,7 +75,7 @@ fn step_one(l: Ledger, number: i32, cap: i32, t: Team) -> Apart
 // One step of a team, in a run with this cap: of the lent records only the stepping team's changes, and none where the step is refused,
 // by 1, 3, 18 or 19 in this order.
 pub fn step_lent(l: Ledger, number: i32, cap: i32, records: &mut [Team]) -> Round
-    ensures { λ r. ⌜ (r ≡ lentRound l number cap (now (records .entry))) × (now (records .exit) ≡ lentRecords l number cap (now (records .entry))) ⌝ }
+    ensures { (result ≡ lent_round l number cap records.old) × (records.new ≡ lent_records l number cap records.old) }
 {
     let n = records.len();
     let at = slot(l, number, n);
@@ -87,7 +89,7 @@ pub fn step_lent(l: Ledger, number: i32, cap: i32, records: &mut [Team]) -> Roun
 
 // The same over a table by value, which it lends: whoever calls this needs to know nothing of lending.
 pub fn step_in(l: Ledger, number: i32, cap: i32, records: [Team; Team::RECORDS]) -> Table
-    ensures { λ r. ⌜ r ≡ tableStep l number cap records ⌝ }
+    ensures { result ≡ table_step l number cap records }
 {
     let mut table = records;
     let round = step_lent(l, number, cap, &mut table);

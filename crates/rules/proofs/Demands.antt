@@ -1,112 +1,112 @@
 -- The demands on the ledger, proved.
-use mathlib.Core.Path.{_≡_, refl, sym, ap, _∙_}
+use mathlib.Core.Path.{◌≡◌, refl, sym, ap, ◌∙◌}
 use mathlib.Core.Bool.{Bool, true, false, true≢false}
 use Prim.Native.Nat.{ℕ}
 use native.Mathlib.Omega.{arith}
 use lib.IntN.{pos}
-use Rattle·numbers.specs.Fields.{natOf}
-use Rattle·numbers.proofs.Laws.{isNat-made}
-use Rattle·rules·specs.specs.declared.Ledger.{Ledger}
-use Rattle·rules·specs.specs.declared.Request.{Request}
-use Rattle·rules·specs.specs.declared.Answered.{Answered}
-use Rattle·rules·specs.specs.Demands.{OpeningWellFormed, RequestsKeepWellFormed, RefusalsChangeNothing, Told, LateSplitterTold, RoomForEverySplit, SplitTakesLowest, OwnedHasSome, StolenHasSome, LastSheet, EmptyNeverOwned, Moves, RequestsFollowMoves}
-use Rattle·rules·specs.specs.Moves.{leads}
-use Rattle·rules·specs.specs.Nodes.{isBlank, fresh, positionOf, middle, leftPart, rightPart}
-use Rattle·rules·specs.specs.Opening.{ledgerOf}
-use Rattle·rules·specs.specs.Requests.{view, nodeIn, answered, requested}
-use Rattle·rules·specs.specs.States.{stateOf}
-use Rattle·rules·specs.specs.Table.{at, nextPair}
-use Rattle·rules·specs.specs.WellFormed.{freePair}
-use Rattle·rules·proofs.proofs.Blank.{blank-t, blank-used}
-use Rattle·rules·proofs.proofs.Spare.{is-found, spare, left-blank, right-blank, pair-room}
-use Rattle·rules·proofs.proofs.Granted.{not-yet, in-use, late-facts, answers, Settled, denied, cleared, settled}
-use Rattle·rules·proofs.proofs.Keeps.{requested-good, requested-wf, refused-keeps}
-use Rattle·rules·proofs.proofs.Moves.{moves, keeps-state, folds-state, others, none}
-use Rattle·rules·proofs.proofs.Opens.{begun, opened-wf}
-use Rattle·rules·proofs.proofs.Record.{WF, rules, rules-back, pair-free, free-pair}
-use Rattle·rules·proofs.proofs.States.{is-stolen, is-owned, completed-is}
+use Rattle.numbers.specs.Fields.{nat_of}
+use Rattle.numbers.proofs.Laws.{is_nat_made}
+use Rattle.rules.specs.declared.Ledger.{Ledger}
+use Rattle.rules.specs.declared.Request.{Request}
+use Rattle.rules.specs.declared.Answered.{Answered}
+use Rattle.rules.specs.Demands.{OpeningWellFormed, RequestsKeepWellFormed, RefusalsChangeNothing, Told, LateSplitterTold, RoomForEverySplit, SplitTakesLowest, OwnedHasSome, StolenHasSome, LastSheet, EmptyNeverOwned, Moves, RequestsFollowMoves}
+use Rattle.rules.specs.Moves.{leads}
+use Rattle.rules.specs.Nodes.{is_blank, fresh, position_of, middle, left_part, right_part}
+use Rattle.rules.specs.Opening.{ledger_of}
+use Rattle.rules.specs.Requests.{view, node_in, answered, requested}
+use Rattle.rules.specs.States.{state_of}
+use Rattle.rules.specs.Table.{at, next_pair}
+use Rattle.rules.specs.WellFormed.{free_pair}
+use Rattle.rules.proofs.Blank.{blank_t, blank_used}
+use Rattle.rules.proofs.Spare.{is_found, spare, left_blank, right_blank, pair_room}
+use Rattle.rules.proofs.Granted.{not_yet, in_use, late_facts, answers, Settled, denied, cleared, settled}
+use Rattle.rules.proofs.Keeps.{requested_good, requested_wf, refused_keeps}
+use Rattle.rules.proofs.Moves.{moves, keeps_state, folds_state, others, none}
+use Rattle.rules.proofs.Opens.{begun, opened_wf}
+use Rattle.rules.proofs.Record.{WF, rules, rules_back, pair_free, free_pair_lem}
+use Rattle.rules.proofs.States.{is_stolen, is-owned, completed-is}
 
-pub opening-well-formed : OpeningWellFormed
-opening-well-formed o e = let b = begun o e in rw (b .ledger) (rules-back (ledgerOf o) (opened-wf o (b .good)))
+pub opening_well_formed : OpeningWellFormed
+opening_well_formed o e = let b = begun o e in rw b.ledger (rules_back (ledger_of o) (opened_wf o b.good))
 
-pub requests-keep-well-formed : RequestsKeepWellFormed
-requests-keep-well-formed l r sound =
+pub requests_keep_well_formed : RequestsKeepWellFormed
+requests_keep_well_formed l r sound =
     let w = rules l sound in
-    rules-back (requested l r .ledger) (requested-good l r w)
+    rules_back (requested l r).ledger (requested_good l r w)
 
-pub refusals-change-nothing : RefusalsChangeNothing
-refusals-change-nothing = refused-keeps
+pub refusals_change_nothing : RefusalsChangeNothing
+refusals_change_nothing = refused_keeps
 
 -- no grant has the code 16, and the children of a parent are where the ledger has them
-told : {l : Ledger} {r : Request} {a : Answered} → WF l → Settled l r a → a .answer .code ≡ 16 → Told l (nodeIn r) (a .answer)
+told : {l : Ledger} {r : Request} {a : Answered} → WF l → Settled l r a → a.answer.code ≡ 16 → Told l (node_in r) a.answer
 unfolding view
 told {l} {r} w (denied ne) e =
-    let late = late-facts (view l (nodeIn r)) r e in
-    let p = w .node (nodeIn r) (in-use l r (late .asked)) .pair (late .parent) in
-    rw e (record { left = refl; left-until = p .left .until; right-start = p .right .start })
+    let late = late_facts (view l (node_in r)) r e in
+    let p = (w.node (node_in r) (in_use l r late.asked)).pair late.parent in
+    rw e (record { left = refl; left_until = p.left.until; right_start = p.right.start })
 told w (cleared z) e = absurd (omega arith)
 
-pub late-splitter-told : LateSplitterTold
-late-splitter-told l r sound = let w = rules l sound in rw (requested-wf l r w) (told w (settled (answers l r)))
+pub late_splitter_told : LateSplitterTold
+late_splitter_told l r sound = let w = rules l sound in rw (requested_wf l r w) (told w (settled (answers l r)))
 
-pub room-for-every-split : RoomForEverySplit
-room-for-every-split l n sound u s =
+pub room_for_every_split : RoomForEverySplit
+room_for_every_split l n sound u s =
     let w = rules l sound in
-    record { fits = pair-room l w n u (is-stolen (at l n) s); left = left-blank l w; right = right-blank l w }
+    record { fits = pair_room l w n u (is_stolen (at l n) s); left = left_blank l w; right = right_blank l w }
 
-pub owned-has-some : OwnedHasSome
-owned-has-some l n sound u s =
+pub owned_has_some : OwnedHasSome
+owned_has_some l n sound u s =
     let x = at l n in
     let o = is-owned x s in
-    omega (arith, rules l sound .node n u .alone .high, not-yet (x .progress) (x .until) (o .plain) (o .going))
+    omega (arith, ((rules l sound).node n u).alone.high, not_yet x.progress x.until o.plain o.going)
 
-pub stolen-has-some : StolenHasSome
-stolen-has-some l n sound u mark = omega (arith, rules l sound .node n u .alone .some-left mark)
+pub stolen_has_some : StolenHasSome
+stolen_has_some l n sound u mark = omega (arith, ((rules l sound).node n u).alone.some_left mark)
 
-pub last-sheet : LastSheet
-unfolding leftPart rightPart middle
-last-sheet x one =
-    let same : middle x ≡ positionOf x = omega (arith, one) in
-    (ap (λ (m : ℕ). fresh (positionOf x) m) same, ap (λ (m : ℕ). fresh m (x .until)) same)
+pub last_sheet : LastSheet
+unfolding left_part right_part middle
+last_sheet x one =
+    let same : middle x ≡ position_of x = omega (arith, one) in
+    (ap (λ (m : ℕ). fresh (position_of x) m) same, ap (λ (m : ℕ). fresh m x.until) same)
 
-pub empty-never-owned : EmptyNeverOwned
-empty-never-owned l n sound u empty =
+pub empty_never_owned : EmptyNeverOwned
+empty_never_owned l n sound u empty =
     let x = at l n in
-    let alone = rules l sound .node n u .alone in
-    let nobody = alone .empty empty in
-    (completed-is x (rw (alone .unowned nobody ∙ ap pos empty) (isNat-made (x .until))), nobody)
+    let alone = ((rules l sound).node n u).alone in
+    let nobody = alone.empty empty in
+    (completed-is x (rw (alone.unowned nobody ∙ ap pos empty) (is_nat_made x.until)), nobody)
 
-follow : (l : Ledger) (r : Request) → WF l → Moves l r (requested l r .ledger)
+follow : (l : Ledger) (r : Request) → WF l → Moves l r (requested l r).ledger
 follow l r w =
     let step = moves w (answers l r) in
     rw
-    (requested-wf l r w)
+    (requested_wf l r w)
     (record {
       others = others w refl (answers l r);
       moves = step;
-      none = λ h. none l (answered l r .ledger) _ (leads (stateOf (at l (nodeIn r))) (natOf (r .kind))) (step h);
-      stays = keeps-state w (answers l r);
-      folds = folds-state w (answers l r);
+      none = λ h. none l (answered l r).ledger _ (leads (state_of (at l (node_in r))) (nat_of r.kind)) (step h);
+      stays = keeps_state w (answers l r);
+      folds = folds_state w (answers l r);
     })
 
-pub requests-follow-moves : RequestsFollowMoves
-requests-follow-moves l r sound = follow l r (rules l sound)
+pub requests_follow_moves : RequestsFollowMoves
+requests_follow_moves l r sound = follow l r (rules l sound)
 
-pub split-takes-lowest : SplitTakesLowest
-split-takes-lowest l sound =
+pub split_takes_lowest : SplitTakesLowest
+split_takes_lowest l sound =
     let w = rules l sound in
     let s = spare l w in
     record {
-      even = s .even;
-      low = s .some;
-      high = s .next;
-      free = free-pair l (nextPair l) (s .left) (s .right);
-      before = λ d p q e. not-free l d (is-found l w .before d p q e);
+      even = s.even;
+      low = s.some;
+      high = s.next;
+      free = free_pair_lem l (next_pair l) s.left s.right;
+      before = λ d p q e. not_free l d ((is_found l w).before d p q e);
     }
   where
-    not-free : (k : Ledger) (d : ℕ) → isBlank (at k d) ≡ false → freePair k d ≡ false
-    not-free k d e = go (freePair k d) refl
+    not_free : (k : Ledger) (d : ℕ) → is_blank (at k d) ≡ false → free_pair k d ≡ false
+    not_free k d e = go (free_pair k d) refl
       where
-        go : (b : Bool) → freePair k d ≡ b → b ≡ false
-        go true f = absurd (true≢false (sym (blank-t (at k d) .1 (blank-used (at k d) (pair-free k d f .0))) ∙ e))
+        go : (b : Bool) → free_pair k d ≡ b → b ≡ false
+        go true f = absurd (true≢false (sym ((blank_t (at k d)).1 (blank_used (at k d) (pair_free k d f).0)) ∙ e))
         go false f = refl

@@ -1,54 +1,54 @@
 -- Reading a node of a changed ledger.
-use mathlib.Core.Path.{_≡_, refl, sym, _∙_}
-use mathlib.Core.Logic.{_≢_}
-use Prim.Native.Nat.{ℕ, _+_, _-_, _≤_, _<_}
+use mathlib.Core.Path.{◌≡◌, refl, sym, ◌∙◌}
+use mathlib.Core.Logic.{◌≢◌}
+use Prim.Native.Nat.{ℕ, ◌+◌, ◌-◌, ◌≤◌, ◌<◌}
 use native.Mathlib.Omega.{arith}
-use native.Mathlib.Decide.{ℕ-discrete}
-use lib.ListN.{length, getD, length-set, List·getD-eq-default}
-use lib.Seq.{getD-set-same, getD-set-other}
-use Rattle·rules·specs.specs.declared.Node.{Node}
-use Rattle·rules·specs.specs.declared.Ledger.{Ledger}
-use Rattle·rules·specs.specs.Nodes.{blank, usedOf}
-use Rattle·rules·specs.specs.Table.{InUse, at, put, grown}
+use native.Mathlib.Decide.{ℕ_discrete}
+use lib.ListN.{length, get_or, length-set, get_or-eq_default}
+use lib.Seq.{get_or-set_same, get_or-set_other}
+use Rattle.rules.specs.declared.Node.{Node}
+use Rattle.rules.specs.declared.Ledger.{Ledger}
+use Rattle.rules.specs.Nodes.{blank, used_of}
+use Rattle.rules.specs.Table.{InUse, at, put, grown}
 
 -- the node in slot i, as a loop over the slots reads it
-pub at-next : (l : Ledger) (i : ℕ) → at l (i + 1) ≡ getD (l .nodes) i blank
+pub at_next : (l : Ledger) (i : ℕ) → at l (i + 1) ≡ get_or l.nodes i blank
 unfolding at
-at-next l i = let e : i + 1 - 1 ≡ i = omega arith in rw e
+at_next l i = let e : i + 1 - 1 ≡ i = omega arith in rw e
 
 module _ (l : Ledger) (n : ℕ) (x : Node) (low : 1 ≤ n) where
-  pub at-same : n ≤ length (l .nodes) → at (put l n x) n ≡ x
+  pub at_same : n ≤ length l.nodes → at (put l n x) n ≡ x
   unfolding at put
-  at-same h = getD-set-same (l .nodes) (n - 1) x blank (omega arith)
+  at_same h = get_or-set_same l.nodes (n - 1) x blank (omega arith)
 
-  pub at-other : (m : ℕ) → 1 ≤ m → m ≢ n → at (put l n x) m ≡ at l m
+  pub at_other : (m : ℕ) → 1 ≤ m → m ≢ n → at (put l n x) m ≡ at l m
   unfolding at put
-  at-other m k ne = getD-set-other (l .nodes) (n - 1) (m - 1) x blank (omega arith)
+  at_other m k ne = get_or-set_other l.nodes (n - 1) (m - 1) x blank (omega arith)
 
-pub at-out : (l : Ledger) (n : ℕ) → length (l .nodes) < n → at l n ≡ blank
+pub at_out : (l : Ledger) (n : ℕ) → length l.nodes < n → at l n ≡ blank
 unfolding at
-at-out l n h = List·getD-eq-default (l .nodes) blank (omega arith)
+at_out l n h = get_or-eq_default l.nodes blank (omega arith)
 
 -- the same nodes are in use where the one that is stored is so, and was
-module _ (l : Ledger) (n : ℕ) (x : Node) (low : 1 ≤ n) (fits : n ≤ length (l .nodes)) (same : usedOf x ≡ usedOf (at l n)) where
-  pub put-same-use : (m : ℕ) → 1 ≤ m → usedOf (at (put l n x) m) ≡ usedOf (at l m)
-  put-same-use m p = go (ℕ-discrete m n)
+module _ (l : Ledger) (n : ℕ) (x : Node) (low : 1 ≤ n) (fits : n ≤ length l.nodes) (same : used_of x ≡ used_of (at l n)) where
+  pub put_same_use : (m : ℕ) → 1 ≤ m → used_of (at (put l n x) m) ≡ used_of (at l m)
+  put_same_use m p = go (ℕ_discrete m n)
     where
-      go : Dec (m ≡ n) → usedOf (at (put l n x) m) ≡ usedOf (at l m)
-      go (yes e) = rw (e, at-same l n x low fits) same
-      go (no ne) = rw (at-other l n x low m p ne)
+      go : Dec (m ≡ n) → used_of (at (put l n x) m) ≡ used_of (at l m)
+      go (yes e) = rw (e, at_same l n x low fits) same
+      go (no ne) = rw (at_other l n x low m p ne)
 
-  pub put-used : {m : ℕ} → InUse l m → InUse (put l n x) m
+  pub put_used : {m : ℕ} → InUse l m → InUse (put l n x) m
   unfolding put
-  put-used {m} u = record { low = u .low; high = u .high; some = put-same-use m (u .low) ∙ u .some }
+  put_used {m} u = record { low = u.low; high = u.high; some = put_same_use m u.low ∙ u.some }
 
-  pub put-was : {m : ℕ} → InUse (put l n x) m → InUse l m
+  pub put_was : {m : ℕ} → InUse (put l n x) m → InUse l m
   unfolding put
-  put-was {m} u = record { low = u .low; high = u .high; some = sym (put-same-use m (u .low)) ∙ u .some }
+  put_was {m} u = record { low = u.low; high = u.high; some = sym (put_same_use m u.low) ∙ u.some }
 
-pub put-length : (l : Ledger) (n : ℕ) (x : Node) → length (put l n x .nodes) ≡ length (l .nodes)
+pub put-length : (l : Ledger) (n : ℕ) (x : Node) → length (put l n x).nodes ≡ length l.nodes
 unfolding put
-put-length l n x = length-set (l .nodes) (n - 1) x
+put-length l n x = length-set l.nodes (n - 1) x
 
 pub at-grown : (l : Ledger) (c m : ℕ) → at (grown l c) m ≡ at l m
 unfolding at grown

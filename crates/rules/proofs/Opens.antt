@@ -1,156 +1,156 @@
 -- An opening within its limits makes a well-formed ledger.
-use mathlib.Core.Path.{_≡_, refl, sym, ap}
+use mathlib.Core.Path.{◌≡◌, refl, sym, ap}
 use mathlib.Core.Bool.{Bool, true, false, cond}
-use mathlib.Core.List.{_∷_}
-use Prim.Native.Nat.{ℕ, zero, suc, _+_, _-_, _*_, _≤_, _<_}
+use mathlib.Core.List.{◌∷◌}
+use Prim.Native.Nat.{ℕ, zero, suc, ◌+◌, ◌-◌, ◌*◌, ◌≤◌, ◌<◌}
 use native.Mathlib.Omega.{arith}
-use native.Mathlib.Decide.{ℕ-discrete}
-use lib.ListN.{replicate, length-replicate, getD}
-use Rattle·numbers.specs.Fields.{natOf}
-use Rattle·numbers.proofs.Laws.{Within, within-true}
-use Rattle·rules·specs.specs.declared.Node.{Node}
-use Rattle·rules·specs.specs.declared.Ledger.{Ledger}
-use Rattle·rules·specs.specs.declared.Opening.{Opening}
-use Rattle·rules·specs.specs.declared.Opened.{Opened}
-use Rattle·rules·specs.specs.Limits.{opens, maxUntil, maxTeams, maxCap, maxNodes, slotsAfter}
-use Rattle·rules·specs.specs.Nodes.{blank, usedOf, fresh}
-use Rattle·rules·specs.specs.Opening.{opened, opening, ledgerOf, closed}
-use Rattle·rules·specs.specs.States.{stolenOf}
-use Rattle·rules·specs.specs.Table.{InUse, at, sumBy, stolenIn, takenIn}
-use Rattle·rules·specs.specs.Walk.{sameAs}
-use Rattle·rules·proofs.proofs.Blank.{used-blank, blank-free}
-use Rattle·rules·proofs.proofs.Expand.{good-fresh}
-use Rattle·rules·proofs.proofs.Facts.{both}
-use Rattle·rules·proofs.proofs.Record.{Limited, good-used, WF}
-use Rattle·rules·proofs.proofs.States.{fresh-none, blank-none}
-use Rattle·rules·proofs.proofs.Tree.{same-one, same-none, Tree, leaf, times, Rooted}
+use native.Mathlib.Decide.{ℕ_discrete}
+use lib.ListN.{replicate, length-replicate, get_or}
+use Rattle.numbers.specs.Fields.{nat_of}
+use Rattle.numbers.proofs.Laws.{Within, within_true}
+use Rattle.rules.specs.declared.Node.{Node}
+use Rattle.rules.specs.declared.Ledger.{Ledger}
+use Rattle.rules.specs.declared.Opening.{Opening}
+use Rattle.rules.specs.declared.Opened.{Opened}
+use Rattle.rules.specs.Limits.{opens, max_until, max_teams, max_cap, max_nodes, slots_after}
+use Rattle.rules.specs.Nodes.{blank, used_of, fresh}
+use Rattle.rules.specs.Opening.{opened, opening, ledger_of, closed}
+use Rattle.rules.specs.States.{stolen_of}
+use Rattle.rules.specs.Table.{InUse, at, sum_by, stolen_in, taken_in}
+use Rattle.rules.specs.Walk.{same_as}
+use Rattle.rules.proofs.Blank.{used_blank, blank_free}
+use Rattle.rules.proofs.Expand.{good_fresh}
+use Rattle.rules.proofs.Facts.{both}
+use Rattle.rules.proofs.Record.{Limited, good_used, WF}
+use Rattle.rules.proofs.States.{fresh_none, blank_none}
+use Rattle.rules.proofs.Tree.{same_one, same_none, Tree, leaf, times, Rooted}
 
-pub all-blank : (k i : ℕ) → getD (replicate k blank) i blank ≡ blank
-all-blank zero i = refl
-all-blank (suc k) zero = refl
-all-blank (suc k) (suc i) = all-blank k i
+pub all_blank : (k i : ℕ) → get_or (replicate k blank) i blank ≡ blank
+all_blank zero i = refl
+all_blank (suc k) zero = refl
+all_blank (suc k) (suc i) = all_blank k i
 
 -- what is 0 for a blank slot is 0 for any number of them
-pub blank-sum : (f : Node → ℕ) → f blank ≡ 0 → (k : ℕ) → sumBy f (replicate k blank) ≡ 0
-unfolding sumBy
-blank-sum f z zero = refl
-blank-sum f z (suc k) = omega (arith, z, blank-sum f z k)
+pub blank_sum : (f : Node → ℕ) → f blank ≡ 0 → (k : ℕ) → sum_by f (replicate k blank) ≡ 0
+unfolding sum_by
+blank_sum f z zero = refl
+blank_sum f z (suc k) = omega (arith, z, blank_sum f z k)
 
 -- with k slots besides the root's: a variable, so that no proof counts them out
-abbrev openedWith : ℕ → ℕ → ℕ → ℕ → ℕ → Ledger
-openedWith k a b teams room =
+abbrev opened_with : ℕ → ℕ → ℕ → ℕ → ℕ → Ledger
+opened_with k a b teams room =
     record { start = a; until = b; teams = teams; room = room; used = 1; nodes = fresh a b ∷ replicate k blank }
 
-module _ (k a b teams room : ℕ) (slots : k + 1 ≡ maxNodes) (limits : Limited a b teams room) where
+module _ (k a b teams room : ℕ) (slots : k + 1 ≡ max_nodes) (limits : Limited a b teams room) where
   abbrev l : Ledger
-  l = openedWith k a b teams room
+  l = opened_with k a b teams room
 
-  root-is : at l 1 ≡ fresh a b
+  root_is : at l 1 ≡ fresh a b
   unfolding at
-  root-is = refl
+  root_is = refl
 
-  blank-is : (n : ℕ) → 1 < n → at l n ≡ blank
+  blank_is : (n : ℕ) → 1 < n → at l n ≡ blank
   unfolding at
-  blank-is zero h = absurd (omega arith)
-  blank-is (suc zero) h = absurd (omega arith)
-  blank-is (suc (suc n)) h = let e : suc (suc n) - 1 ≡ suc n = omega arith in rw e (all-blank k n)
+  blank_is zero h = absurd (omega arith)
+  blank_is (suc zero) h = absurd (omega arith)
+  blank_is (suc (suc n)) h = let e : suc (suc n) - 1 ≡ suc n = omega arith in rw e (all_blank k n)
 
-  root-some : usedOf (fresh a b) ≡ 1
-  root-some = good-used (good-fresh {node = at l} {teams = teams} {used = 1} a b (limits .ordered))
+  root_some : used_of (fresh a b) ≡ 1
+  root_some = good_used (good_fresh {node = at l} {teams = teams} {used = 1} a b limits.ordered)
 
-  root-in : InUse l 1
-  root-in = record { low = omega arith; high = omega arith; some = rw root-is root-some }
+  root_in : InUse l 1
+  root_in = record { low = omega arith; high = omega arith; some = rw root_is root_some }
 
-  root-tree : Tree l 1
-  root-tree = leaf root-in (rw root-is)
+  root_tree : Tree l 1
+  root_tree = leaf root_in (rw root_is)
 
-  root-rooted : Rooted l
-  unfolding times root-tree
-  root-rooted = record { tree = root-tree; once = λ n p. go n p (ℕ-discrete n 1) }
+  root_rooted : Rooted l
+  unfolding times root_tree
+  root_rooted = record { tree = root_tree; once = λ n p. go n p (ℕ_discrete n 1) }
     where
-      go : (n : ℕ) → 1 ≤ n → Dec (n ≡ 1) → sameAs 1 n ≡ usedOf (at l n)
-      go n p (yes e) = omega (arith, same-one 1 n (sym e), ap (λ (m : ℕ). usedOf (at l m)) e, root-in .some)
-      go n p (no ne) = omega (arith, same-none 1 n (λ e. ne (sym e)), used-blank (at l n) (blank-is n (omega arith)))
+      go : (n : ℕ) → 1 ≤ n → Dec (n ≡ 1) → same_as 1 n ≡ used_of (at l n)
+      go n p (yes e) = omega (arith, same_one 1 n (sym e), ap (λ (m : ℕ). used_of (at l m)) e, root_in.some)
+      go n p (no ne) = omega (arith, same_none 1 n (λ e. ne (sym e)), used_blank (at l n) (blank_is n (omega arith)))
 
-  light : takenIn l + 2 * stolenIn l ≤ room
-  unfolding stolenIn takenIn sumBy
+  light : taken_in l + 2 * stolen_in l ≤ room
+  unfolding stolen_in taken_in sum_by
   light =
-      omega (arith, limits .room-low, fresh-none a b, root-some, blank-sum stolenOf blank-none k, blank-sum usedOf blank-free k)
+      omega (arith, limits.room_low, fresh_none a b, root_some, blank_sum stolen_of blank_none k, blank_sum used_of blank_free k)
 
-  with-wf : WF l
-  with-wf =
+  with_wf : WF l
+  with_wf =
       record {
         limits = limits;
         slots = omega (arith, length-replicate k blank, slots);
         odd = refl;
-        used-room = limits .room-low;
-        root = rw root-is (record { start = refl; until = refl });
-        node = λ n u. let e : n ≡ 1 = omega (arith, u .low, u .high) in rw (e, root-is) (good-fresh a b (limits .ordered));
+        used_room = limits.room_low;
+        root = rw root_is (record { start = refl; until = refl });
+        node = λ n u. let e : n ≡ 1 = omega (arith, u.low, u.high) in rw (e, root_is) (good_fresh a b limits.ordered);
         twins = λ c p q e. absurd (omega arith);
         parent = λ c p q e. absurd (omega arith);
-        rooted = root-rooted;
+        rooted = root_rooted;
         loaded = light;
-        blank = blank-is;
+        blank = blank_is;
       }
 
-pub opened-wf-of : (a b teams room : ℕ) → Limited a b teams room → WF (opened a b teams room)
+pub opened_wf_of : (a b teams room : ℕ) → Limited a b teams room → WF (opened a b teams room)
 unfolding opened
-opened-wf-of a b teams room limits = with-wf (slotsAfter 1) a b teams room refl limits
+opened_wf_of a b teams room limits = with_wf (slots_after 1) a b teams room refl limits
 
 -- the five numbers of an opening within its limits
 pub record Opens (o : Opening) : Type 0 where
-  pub start : Within (o .start) 0 (natOf (o .until))
-  pub until : Within (o .until) 0 maxUntil
-  pub teams : Within (o .teams) 1 maxTeams
-  pub cap : Within (o .cap) 1 maxCap
-  pub nodes : Within (o .nodes) 1 maxNodes
+  pub start : Within o.start 0 (nat_of o.until)
+  pub until : Within o.until 0 max_until
+  pub teams : Within o.teams 1 max_teams
+  pub cap : Within o.cap 1 max_cap
+  pub nodes : Within o.nodes 1 max_nodes
 
-pub opens-facts : (o : Opening) → opens o ≡ true → Opens o
+pub opens_facts : (o : Opening) → opens o ≡ true → Opens o
 unfolding opens
-opens-facts o e =
+opens_facts o e =
     let t = simp both at e in
     record {
-      start = within-true _ _ _ (t .0 .0 .0 .0);
-      until = within-true _ _ _ (t .0 .0 .0 .1);
-      teams = within-true _ _ _ (t .0 .0 .1);
-      cap = within-true _ _ _ (t .0 .1);
-      nodes = within-true _ _ _ (t .1);
+      start = within_true _ _ _ t.0.0.0.0;
+      until = within_true _ _ _ t.0.0.0.1;
+      teams = within_true _ _ _ t.0.0.1;
+      cap = within_true _ _ _ t.0.1;
+      nodes = within_true _ _ _ t.1;
     }
 
-pub opened-wf : (o : Opening) → opens o ≡ true → WF (ledgerOf o)
-opened-wf o e =
-    let f = opens-facts o e in
-    opened-wf-of
-    (natOf (o .start))
-    (natOf (o .until))
-    (natOf (o .teams))
-    (natOf (o .nodes))
+pub opened_wf : (o : Opening) → opens o ≡ true → WF (ledger_of o)
+opened_wf o e =
+    let f = opens_facts o e in
+    opened_wf_of
+    (nat_of o.start)
+    (nat_of o.until)
+    (nat_of o.teams)
+    (nat_of o.nodes)
     (record {
-      ordered = f .start .high;
-      until-limit = f .until .high;
-      teams-low = f .teams .low;
-      teams-high = f .teams .high;
-      room-low = f .nodes .low;
-      room-high = f .nodes .high;
+      ordered = f.start.high;
+      until_limit = f.until.high;
+      teams_low = f.teams.low;
+      teams_high = f.teams.high;
+      room_low = f.nodes.low;
+      room_high = f.nodes.high;
     })
 
-pub opened-root : (a b teams room : ℕ) → at (opened a b teams room) 1 ≡ fresh a b
+pub opened_root : (a b teams room : ℕ) → at (opened a b teams room) 1 ≡ fresh a b
 unfolding opened at
-opened-root a b teams room = refl
+opened_root a b teams room = refl
 
 -- ---- an opening that is not refused
 
 pub record Begun (o : Opening) : Type 0 where
   pub good : opens o ≡ true
-  pub ledger : opening o .ledger ≡ ledgerOf o
+  pub ledger : (opening o).ledger ≡ ledger_of o
 
-pub begun : (o : Opening) → opening o .code ≡ 0 → Begun o
+pub begun : (o : Opening) → (opening o).code ≡ 0 → Begun o
 unfolding opening
 begun o = go (opens o) refl
   where
     given : Bool → Opened
-    given b = cond b (record { code = 0; ledger = ledgerOf o }) (record { code = 20; ledger = closed })
+    given b = cond b (record { code = 0; ledger = ledger_of o }) (record { code = 20; ledger = closed })
 
-    go : (b : Bool) → opens o ≡ b → given b .code ≡ 0 → Begun o
+    go : (b : Bool) → opens o ≡ b → (given b).code ≡ 0 → Begun o
     go true e z = record { good = e; ledger = unfold opening in (rw e) }
     go false e z = absurd (omega arith)

@@ -1,33 +1,33 @@
 -- The rules of pairs by example, by computation.
 use mathlib.Core.Path.{refl}
-use Rattle·rules·specs.specs.Joining.{sameFinds, reportable, join, joinAll}
-use Rattle·rules·specs.specs.Limits.{opens}
-use Rattle·rules·specs.specs.Nodes.{usedOf, middle, joinedOf}
-use Rattle·rules·specs.specs.Requests.{requested}
-use Rattle·rules·specs.specs.Rules.{EachRule}
-use Rattle·rules·specs.specs.States.{stateOf, stolenOf, ended, unready, overfull, filled}
-use Rattle·rules·specs.specs.Table.{at, leftAt, sumBy, stolenIn, takenIn}
-use Rattle·rules·specs.specs.Walk.{walk, sameAs, timesOf}
-use Rattle·rules·specs.specs.WellFormed.{upTo, aloneRule, childRule, stageRule, freePair, freeSlot, nodeRule, leftIs, pairRule, reachRule, wellFormed}
+use Rattle.rules.specs.Joining.{same_finds, reportable, join, join_all}
+use Rattle.rules.specs.Limits.{opens}
+use Rattle.rules.specs.Nodes.{used_of, middle, joined_of}
+use Rattle.rules.specs.Requests.{requested}
+use Rattle.rules.specs.Rules.{EachRule}
+use Rattle.rules.specs.States.{state_of, stolen_of, ended, unready, overfull, filled}
+use Rattle.rules.specs.Table.{at, left_at, sum_by, stolen_in, taken_in}
+use Rattle.rules.specs.Walk.{walk, same_as, times_of}
+use Rattle.rules.specs.WellFormed.{up_to, alone_rule, child_rule, stage_rule, free_pair, free_slot, node_rule, left_is, pair_rule, reach_rule, well_formed}
 
-pub each-rule : EachRule
-unfolding opens middle stateOf stolenOf usedOf at leftAt sumBy stolenIn takenIn walk sameAs timesOf upTo aloneRule childRule freePair freeSlot nodeRule leftIs pairRule reachRule wellFormed stageRule sameFinds reportable joinedOf joinAll join ended unready overfull filled requested
-each-rule =
+pub each_rule : EachRule
+unfolding opens middle state_of stolen_of used_of at left_at sum_by stolen_in taken_in walk same_as times_of up_to alone_rule child_rule free_pair free_slot node_rule left_is pair_rule reach_rule well_formed stage_rule same_finds reportable joined_of join_all join ended unready overfull filled requested
+each_rule =
     record {
-      even-left = refl;
-      odd-left = refl;
-      far-left = refl;
-      both-free = refl;
-      left-free = refl;
-      right-free = refl;
-      slots-free = refl;
-      root-blank = refl;
-      one-parent = refl;
-      two-parents = refl;
-      no-parent = refl;
+      even_left = refl;
+      odd_left = refl;
+      far_left = refl;
+      both_free = refl;
+      left_free = refl;
+      right_free = refl;
+      slots_free = refl;
+      root_blank = refl;
+      one_parent = refl;
+      two_parents = refl;
+      no_parent = refl;
       nobodys = refl;
-      free-child = refl;
-      ring-else = refl;
-      ring-out = refl;
-      ring-refused = (refl, tt);
+      free_child = refl;
+      ring_else = refl;
+      ring_out = refl;
+      ring_refused = (refl, tt);
     }

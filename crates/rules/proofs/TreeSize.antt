@@ -1,51 +1,51 @@
 -- What is counted over a tree, and how many nodes it has.
-use mathlib.Core.Path.{_≡_, refl, ap}
-use Prim.Native.Nat.{ℕ, zero, suc, _+_, _*_, _≤_, _<_}
+use mathlib.Core.Path.{◌≡◌, refl, ap}
+use Prim.Native.Nat.{ℕ, zero, suc, ◌+◌, ◌*◌, ◌≤◌, ◌<◌}
 use native.Mathlib.Omega.{arith}
-use native.Mathlib.Decide.{ℕ-discrete}
-use Rattle·rules·specs.specs.declared.Ledger.{Ledger}
-use Rattle·rules·specs.specs.Table.{at}
-use Rattle·rules·specs.specs.Nodes.{usedOf}
-use Rattle·rules·specs.specs.Walk.{sameAs}
-use Rattle·rules·proofs.proofs.Blank.{used-most}
-use Rattle·rules·proofs.proofs.Numbers.{sumUp, sumUp-add, sumUp-alike, sumUp-most}
-use Rattle·rules·proofs.proofs.Tree.{same-one, same-none, Tree, leaf, fork, times, Rooted}
+use native.Mathlib.Decide.{ℕ_discrete}
+use Rattle.rules.specs.declared.Ledger.{Ledger}
+use Rattle.rules.specs.Table.{at}
+use Rattle.rules.specs.Nodes.{used_of}
+use Rattle.rules.specs.Walk.{same_as}
+use Rattle.rules.proofs.Blank.{used_most}
+use Rattle.rules.proofs.Numbers.{sum_up, sum_up_add, sum_up_alike, sum_up_most}
+use Rattle.rules.proofs.Tree.{same_one, same_none, Tree, leaf, fork, times, Rooted}
 
 -- what is counted of each number, over a tree
-unfoldable pub sumTree : {l : Ledger} {n : ℕ} → (ℕ → ℕ) → Tree l n → ℕ
-sumTree g (leaf {n = n} u e) = g n
-sumTree g (fork {n = n} u h e x y) = g n + (sumTree g x + sumTree g y)
+unfoldable pub sum_tree : {l : Ledger} {n : ℕ} → (ℕ → ℕ) → Tree l n → ℕ
+sum_tree g (leaf {n = n} u e) = g n
+sum_tree g (fork {n = n} u h e x y) = g n + (sum_tree g x + sum_tree g y)
 
 -- picked by one number
-past : (n : ℕ) (g : ℕ → ℕ) (k : ℕ) → k < n → sumUp (λ (m : ℕ). sameAs n m * g m) k ≡ 0
-unfolding sumUp
+past : (n : ℕ) (g : ℕ → ℕ) (k : ℕ) → k < n → sum_up (λ (m : ℕ). same_as n m * g m) k ≡ 0
+unfolding sum_up
 past n g zero h = refl
-past n g (suc k) h = rw (same-none n (suc k) (omega arith)) (omega (arith, past n g k (omega arith)))
+past n g (suc k) h = rw (same_none n (suc k) (omega arith)) (omega (arith, past n g k (omega arith)))
 
-picked : (n : ℕ) (g : ℕ → ℕ) (k : ℕ) → 1 ≤ n → n ≤ k → sumUp (λ (m : ℕ). sameAs n m * g m) k ≡ g n
-unfolding sumUp
+picked : (n : ℕ) (g : ℕ → ℕ) (k : ℕ) → 1 ≤ n → n ≤ k → sum_up (λ (m : ℕ). same_as n m * g m) k ≡ g n
+unfolding sum_up
 picked n g zero p q = absurd (omega arith)
-picked n g (suc k) p q = go (ℕ-discrete n (suc k)) (λ h. picked n g k p h)
+picked n g (suc k) p q = go (ℕ_discrete n (suc k)) (λ h. picked n g k p h)
   where
-    go : Dec (n ≡ suc k) → (n ≤ k → sumUp (λ (m : ℕ). sameAs n m * g m) k ≡ g n) → sumUp (λ (m : ℕ). sameAs n m * g m) (suc k) ≡ g n
-    go (yes e) below = rw (same-one n (suc k) e) (omega (arith, past n g k (omega arith), ap g e))
-    go (no ne) below = rw (same-none n (suc k) ne) (omega (arith, below (omega arith)))
+    go : Dec (n ≡ suc k) → (n ≤ k → sum_up (λ (m : ℕ). same_as n m * g m) k ≡ g n) → sum_up (λ (m : ℕ). same_as n m * g m) (suc k) ≡ g n
+    go (yes e) below = rw (same_one n (suc k) e) (omega (arith, past n g k (omega arith), ap g e))
+    go (no ne) below = rw (same_none n (suc k) ne) (omega (arith, below (omega arith)))
 
 -- by how often each stands in the tree
-pub weighed : {l : Ledger} {n : ℕ} (g : ℕ → ℕ) (t : Tree l n) (k : ℕ) → l .used ≤ k → sumUp (λ (m : ℕ). times m t * g m) k ≡ sumTree g t
-unfolding times sumTree
-weighed g (leaf {n = n} u e) k h = picked n g k (u .low) (omega (arith, u .high))
+pub weighed : {l : Ledger} {n : ℕ} (g : ℕ → ℕ) (t : Tree l n) (k : ℕ) → l.used ≤ k → sum_up (λ (m : ℕ). times m t * g m) k ≡ sum_tree g t
+unfolding times sum_tree
+weighed g (leaf {n = n} u e) k h = picked n g k u.low (omega (arith, u.high))
 weighed g (fork {n = n} u some e x y) k h =
-    let here = picked n g k (u .low) (omega (arith, u .high)) in
+    let here = picked n g k u.low (omega (arith, u.high)) in
     let all =
-    sumUp-add
-    (λ (m : ℕ). (sameAs n m + (times m x + times m y)) * g m)
-    (λ (m : ℕ). sameAs n m * g m)
+    sum_up_add
+    (λ (m : ℕ). (same_as n m + (times m x + times m y)) * g m)
+    (λ (m : ℕ). same_as n m * g m)
     (λ (m : ℕ). times m x * g m + times m y * g m)
     k
     (λ m. omega arith) in
     let below =
-    sumUp-add
+    sum_up_add
     (λ (m : ℕ). times m x * g m + times m y * g m)
     (λ (m : ℕ). times m x * g m)
     (λ (m : ℕ). times m y * g m)
@@ -56,22 +56,22 @@ weighed g (fork {n = n} u some e x y) k h =
 -- ---- the size of the tree
 
 unfoldable pub size : {l : Ledger} {n : ℕ} → Tree l n → ℕ
-size t = sumTree (λ m. 1) t
+size t = sum_tree (λ m. 1) t
 
-pub size-some : {l : Ledger} {n : ℕ} (t : Tree l n) → 0 < size t
-unfolding size sumTree
-size-some (leaf u e) = omega arith
-size-some (fork u h e x y) = omega arith
+pub size_some : {l : Ledger} {n : ℕ} (t : Tree l n) → 0 < size t
+unfolding size sum_tree
+size_some (leaf u e) = omega arith
+size_some (fork u h e x y) = omega arith
 
 -- no larger than the slots ever used are many, so a walk as deep as that meets its end
-pub rooted-size : (l : Ledger) (r : Rooted l) → size (r .tree) ≤ l .used
+pub rooted_size : (l : Ledger) (r : Rooted l) → size r.tree ≤ l.used
 unfolding size
-rooted-size l r =
+rooted_size l r =
     let e =
-    sumUp-alike
-    (λ (m : ℕ). times m (r .tree) * 1)
-    (λ (m : ℕ). usedOf (at l m))
-    (l .used)
-    (λ m p q. omega (arith, r .once m p)) in
+    sum_up_alike
+    (λ (m : ℕ). times m r.tree * 1)
+    (λ (m : ℕ). used_of (at l m))
+    l.used
+    (λ m p q. omega (arith, r.once m p)) in
     omega
-    (arith, weighed (λ m. 1) (r .tree) (l .used) (omega arith), sumUp-most (λ (m : ℕ). usedOf (at l m)) (l .used) (λ m. used-most (at l m)))
+    (arith, weighed (λ m. 1) r.tree l.used (omega arith), sum_up_most (λ (m : ℕ). used_of (at l m)) l.used (λ m. used_most (at l m)))

@@ -1,9 +1,6 @@
 -- The kinds of requests, and how a request is made: nothing else says which fields a request has.
-use Prim.Native.Nat.{ℕ}
-use mathlib.Core.Bool.{cond}
-use lib.Dec.{eqb}
-use lib.IntN.{ℤ, pos}
-use Rattle·rules·specs.specs.declared.Request.{Request}
+use Rattle.std.specs.Prelude.{ℕ, cond, eqb, ℤ, pos}
+use Rattle.rules.specs.declared.Request.{Request}
 
 abbrev pub OWN : ℕ
 OWN = 1
@@ -32,12 +29,12 @@ abbrev pub FOLD : ℕ
 FOLD = 8
 
 -- "kinds are now 1 to 8"
-abbrev pub lastKind : ℕ
-lastKind = FOLD
+abbrev pub last_kind : ℕ
+last_kind = FOLD
 
 -- one case for each kind
-abbrev pub byKind {ℓ} : {A : Type ℓ} → ℕ → A → A → A → A → A → A → A → A → A
-byKind k own advance mark expand look report push fold =
+abbrev pub by_kind {ℓ} : {A : Type ℓ} → ℕ → A → A → A → A → A → A → A → A → A
+by_kind k own advance mark expand look report push fold =
     cond
     (eqb k OWN)
     own

@@ -1,17 +1,14 @@
 -- A lesson with a fold, worked: a table of seven slots is full, a fold frees pair 4, and node 7 is split into it.
-use mathlib.Core.Path.{_≡_}
-use mathlib.Core.List.{List, [], _∷_}
-use lib.IntN.{pos, negsuc}
-use lib.ListN.{replicate}
-use Rattle·rules·specs.specs.declared.Ledger.{Ledger}
-use Rattle·rules·specs.specs.Asks.{own, mark, expand, look, push, fold}
-use Rattle·rules·specs.specs.Codes.{Reply, answer, _gives_, _gets_}
-use Rattle·rules·specs.specs.Examples.{node}
-use Rattle·rules·specs.specs.Joining.{finds, none}
-use Rattle·rules·specs.specs.Limits.{slotsAfter}
-use Rattle·rules·specs.specs.Nodes.{PREPARED, makeNode, blank}
-use Rattle·rules·specs.specs.Requests.{requested}
-use Rattle·rules·specs.specs.States.{AVAILABLE, COMPLETED, EXPANDED}
+use Rattle.std.specs.Prelude.{◌≡◌, List, [], ◌∷◌, pos, negsuc, replicate}
+use Rattle.rules.specs.declared.Ledger.{Ledger}
+use Rattle.rules.specs.Asks.{own, mark, expand, look, push, fold}
+use Rattle.rules.specs.Codes.{Reply, answer, ◌gives◌, ◌gets◌}
+use Rattle.rules.specs.Examples.{node}
+use Rattle.rules.specs.Joining.{finds, none}
+use Rattle.rules.specs.Limits.{slots_after}
+use Rattle.rules.specs.Nodes.{PREPARED, make_node, blank}
+use Rattle.rules.specs.Requests.{requested}
+use Rattle.rules.specs.States.{AVAILABLE, COMPLETED, EXPANDED}
 
 -- 0..8, split at 0, and both halves too: all of 0..4 is claimed and reported, nothing of 4..8
 abbrev pub week : Ledger
@@ -24,13 +21,13 @@ week =
       used = 7;
       nodes =
           node 0 8 (negsuc 0) 1 2
-          ∷ makeNode 0 4 (negsuc 0) 1 4 none none PREPARED
+          ∷ make_node 0 4 (negsuc 0) 1 4 none none PREPARED
           ∷ node 4 8 (negsuc 4) 2 6
-          ∷ makeNode 0 2 (pos 2) 1 0 (finds 1 7 7) none PREPARED
-          ∷ makeNode 2 4 (pos 4) 2 0 (finds 2 3 5) none PREPARED
+          ∷ make_node 0 2 (pos 2) 1 0 (finds 1 7 7) none PREPARED
+          ∷ make_node 2 4 (pos 4) 2 0 (finds 2 3 5) none PREPARED
           ∷ node 4 6 (pos 4) 0 0
           ∷ node 6 8 (pos 6) 1 0
-          ∷ replicate (slotsAfter 7) blank;
+          ∷ replicate (slots_after 7) blank;
     }
 
 -- what is asked one after the other, and what it is answered
@@ -58,7 +55,7 @@ lesson =
 -- each is answered so, on the ledger that the ones before it left
 abbrev pub InTurn : Ledger → List Reply → Type 0
 InTurn l [] = Unit {0}
-InTurn l (q ∷ qs) = (requested l (q .asked) .answer ≡ q .answer) × InTurn (requested l (q .asked) .ledger) qs
+InTurn l (q ∷ qs) = ((requested l q.asked).answer ≡ q.answer) × InTurn (requested l q.asked).ledger qs
 
 abbrev pub FoldLesson : Type 0
 FoldLesson = InTurn week lesson

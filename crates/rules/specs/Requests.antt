@@ -1,27 +1,24 @@
 -- The requests: what a granted one answers and does, a refusal, and the request on a ledger.
-use Prim.Native.Nat.{ℕ, _+_, min}
-use mathlib.Core.Bool.{cond}
-use lib.IntN.{pos}
-use lib.Dec.{eqb}
-use Rattle·numbers.specs.Progress.{mark}
-use Rattle·numbers.specs.Fields.{natOf}
-use Rattle·rules·specs.specs.declared.Finds.{Finds}
-use Rattle·rules·specs.specs.declared.Node.{Node}
-use Rattle·rules·specs.specs.declared.Ledger.{Ledger}
-use Rattle·rules·specs.specs.declared.Request.{Request}
-use Rattle·rules·specs.specs.declared.Answer.{Answer}
-use Rattle·rules·specs.specs.declared.Answered.{Answered}
-use Rattle·rules·specs.specs.declared.View.{View}
-use Rattle·rules·specs.specs.declared.Change.{Change}
-use Rattle·rules·specs.specs.declared.Change.the-variants.{Keep, Own, Advance, Mark, Split, Report, Push, Fold}
-use Rattle·rules·specs.specs.declared.Outcome.{Outcome}
-use Rattle·rules·specs.specs.Asks.{byKind}
-use Rattle·rules·specs.specs.Joining.{finds}
-use Rattle·rules·specs.specs.Nodes.{blank, owned, moved, parted, reported, pushed, folded, positionOf, middle, leftPart, rightPart, joinedOf}
-use Rattle·rules·specs.specs.States.{stateOf}
-use Rattle·rules·specs.specs.Table.{at, put, nextPair, grown, stolenIn, takenIn}
-use Rattle·rules·specs.specs.Refusals.{refusal}
-use Rattle·rules·specs.specs.WellFormed.{wellFormed}
+use Rattle.std.specs.Prelude.{ℕ, ◌+◌, min, cond, pos, eqb}
+use Rattle.numbers.specs.Progress.{mark}
+use Rattle.numbers.specs.Fields.{nat_of}
+use Rattle.rules.specs.declared.Finds.{Finds}
+use Rattle.rules.specs.declared.Node.{Node}
+use Rattle.rules.specs.declared.Ledger.{Ledger}
+use Rattle.rules.specs.declared.Request.{Request}
+use Rattle.rules.specs.declared.Answer.{Answer}
+use Rattle.rules.specs.declared.Answered.{Answered}
+use Rattle.rules.specs.declared.View.{View}
+use Rattle.rules.specs.declared.Change.{Change}
+use Rattle.rules.specs.declared.Change.TheVariants.{Keep, Own, Advance, Mark, Split, Report, Push, Fold}
+use Rattle.rules.specs.declared.Outcome.{Outcome}
+use Rattle.rules.specs.Asks.{by_kind}
+use Rattle.rules.specs.Joining.{finds}
+use Rattle.rules.specs.Nodes.{blank, owned, moved, parted, reported, pushed, folded, position_of, middle, left_part, right_part, joined_of}
+use Rattle.rules.specs.States.{state_of}
+use Rattle.rules.specs.Table.{at, put, next_pair, grown, stolen_in, taken_in}
+use Rattle.rules.specs.Refusals.{refusal}
+use Rattle.rules.specs.WellFormed.{well_formed}
 
 -- ---- answers: "fields not named below are 0"
 
@@ -36,10 +33,10 @@ refusing v code =
     record {
       code = code;
       state = 0;
-      «from» = cond (eqb code 16) (middle (v .node)) 0;
+      «from» = cond (eqb code 16) (middle v.node) 0;
       to = 0;
       owner = 0;
-      left = cond (eqb code 16) (v .node .left) 0;
+      left = cond (eqb code 16) v.node.left 0;
     }
 
 abbrev pub ranged : ℕ → ℕ → Answer
@@ -51,7 +48,7 @@ split left mid = record { code = 0; state = 0; «from» = mid; to = 0; owner = 0
 -- "state, position as from, until as to, owner, left"
 abbrev pub seen : Node → Answer
 seen x =
-    record { code = 0; state = stateOf x; «from» = positionOf x; to = x .until; owner = x .owner; left = x .left }
+    record { code = 0; state = state_of x; «from» = position_of x; to = x.until; owner = x.owner; left = x.left }
 
 -- "The answer's left is the freed pair."
 abbrev pub freed : ℕ → Answer
@@ -68,36 +65,36 @@ outcome a c = record { answer = a; change = c }
 
 -- "owner becomes the team. From, to: the node's range."
 unfoldable pub owning : View → Request → Outcome
-owning v r = outcome (ranged (v .node .start) (v .node .until)) (Own (natOf (r .team)))
+owning v r = outcome (ranged v.node.start v.node.until) (Own (nat_of r.team))
 
 -- "the lesser of p + k and until"
-unfoldable pub batchEnd : Node → Request → ℕ
-batchEnd x r = min (natOf (r .position) + natOf (r .amount)) (x .until)
+unfoldable pub batch_end : Node → Request → ℕ
+batch_end x r = min (nat_of r.position + nat_of r.amount) x.until
 
 -- "progress becomes [that]; this batch is granted. From, to: the batch, to exclusive."
 unfoldable pub advancing : View → Request → Outcome
 advancing v r =
-    outcome (ranged (natOf (r .position)) (batchEnd (v .node) r)) (Advance (batchEnd (v .node) r))
+    outcome (ranged (nat_of r.position) (batch_end v.node r)) (Advance (batch_end v.node r))
 
 -- "progress becomes −p−1. From p, to until."
 unfoldable pub marking : View → Request → Outcome
-marking v r = outcome (ranged (natOf (r .position)) (v .node .until)) (Mark (natOf (r .position)))
+marking v r = outcome (ranged (nat_of r.position) v.node.until) (Mark (nat_of r.position))
 
 -- "Expand takes the lowest free pair, otherwise the next two slots": they become left and right. "Answer: left, and from = middle."
 unfoldable pub expanding : View → Outcome
-expanding v = outcome (split (v .pair) (middle (v .node))) (Split (v .pair))
+expanding v = outcome (split v.pair (middle v.node)) (Split v.pair)
 
 -- "Changes nothing."
 unfoldable pub looking : View → Outcome
-looking v = outcome (seen (v .node)) Keep
+looking v = outcome (seen v.node) Keep
 
 -- the result that a request reports
-abbrev pub findsIn : Request → Finds
-findsIn r = finds (natOf (r .count)) (natOf (r .first)) (natOf (r .last))
+abbrev pub finds_in : Request → Finds
+finds_in r = finds (nat_of r.count) (nat_of r.first) (nat_of r.last)
 
 -- "the node is then prepared"
 unfoldable pub reporting : Request → Outcome
-reporting r = outcome done (Report (findsIn r))
+reporting r = outcome done (Report (finds_in r))
 
 -- the node is then pushed, with the joined result of its own and its children's
 unfoldable pub pushing : Outcome
@@ -105,12 +102,12 @@ pushing = outcome done Push
 
 -- "its pair becomes free"
 unfoldable pub folding : View → Outcome
-folding v = outcome (freed (v .node .left)) Fold
+folding v = outcome (freed v.node.left) Fold
 
 unfoldable pub granted : View → Request → Outcome
 granted v r =
-    byKind
-    (natOf (r .kind))
+    by_kind
+    (nat_of r.kind)
     (owning v r)
     (advancing v r)
     (marking v r)
@@ -129,28 +126,28 @@ decided v r = cond (eqb (refusal v r) 0) (granted v r) (outcome (refusing v (ref
 unfoldable pub view : Ledger → ℕ → View
 view l n =
     record {
-      teams = l .teams;
-      room = l .room;
-      used = l .used;
-      taken = takenIn l;
-      stolen = stolenIn l;
-      pair = nextPair l;
+      teams = l.teams;
+      room = l.room;
+      used = l.used;
+      taken = taken_in l;
+      stolen = stolen_in l;
+      pair = next_pair l;
       node = at l n;
-      left = at l (at l n .left);
-      right = at l (at l n .left + 1);
+      left = at l (at l n).left;
+      right = at l ((at l n).left + 1);
     }
 
 -- the view without the children, at which no request of the kinds 1 to 5 looks
 abbrev pub alone : View → View
 alone v =
     record {
-      teams = v .teams;
-      room = v .room;
-      used = v .used;
-      taken = v .taken;
-      stolen = v .stolen;
-      pair = v .pair;
-      node = v .node;
+      teams = v.teams;
+      room = v.room;
+      used = v.used;
+      taken = v.taken;
+      stolen = v.stolen;
+      pair = v.pair;
+      node = v.node;
       left = blank;
       right = blank;
     }
@@ -162,20 +159,20 @@ changed l n (Own team) = put l n (owned (at l n) team)
 changed l n (Advance p) = put l n (moved (at l n) (pos p))
 changed l n (Mark p) = put l n (moved (at l n) (mark (pos p)))
 changed l n (Split c) =
-    grown (put (put (put l n (parted (at l n) c)) c (leftPart (at l n))) (c + 1) (rightPart (at l n))) c
+    grown (put (put (put l n (parted (at l n) c)) c (left_part (at l n))) (c + 1) (right_part (at l n))) c
 changed l n (Report f) = put l n (reported (at l n) f)
-changed l n Push = put l n (pushed (at l n) (joinedOf (at l n) (at l (at l n .left)) (at l (at l n .left + 1))))
-changed l n Fold = put (put (put l n (folded (at l n))) (at l n .left) blank) (at l n .left + 1) blank
+changed l n Push = put l n (pushed (at l n) (joined_of (at l n) (at l (at l n).left) (at l ((at l n).left + 1))))
+changed l n Fold = put (put (put l n (folded (at l n))) (at l n).left blank) ((at l n).left + 1) blank
 
-abbrev pub nodeIn : Request → ℕ
-nodeIn r = natOf (r .node)
+abbrev pub node_in : Request → ℕ
+node_in r = nat_of r.node
 
 -- what a well-formed ledger answers and becomes
 unfoldable pub answered : Ledger → Request → Answered
 answered l r =
-    let o = decided (view l (nodeIn r)) r in
-    record { ledger = changed l (nodeIn r) (o .change); answer = o .answer }
+    let o = decided (view l (node_in r)) r in
+    record { ledger = changed l (node_in r) o.change; answer = o.answer }
 
 -- Code 1: the ledger is not well formed
 unfoldable pub requested : Ledger → Request → Answered
-requested l r = cond (wellFormed l) (answered l r) (record { ledger = l; answer = refused 1 })
+requested l r = cond (well_formed l) (answered l r) (record { ledger = l; answer = refused 1 })

@@ -1,33 +1,28 @@
 -- The rules of pairs by example, each by itself: together they leave little to one another, so that what one of them lets in another may
 -- still keep out. And a ring, which nothing but "every node in use must be reached from the root" keeps out.
-use Prim.Native.Nat.{ℕ}
-use mathlib.Core.Path.{_≡_}
-use mathlib.Core.Bool.{true, false, _&&_}
-use mathlib.Core.List.{[], _∷_}
-use lib.IntN.{pos, negsuc}
-use lib.ListN.{replicate}
-use Rattle·rules·specs.specs.declared.Ledger.{Ledger}
-use Rattle·rules·specs.specs.declared.Node.{Node}
-use Rattle·rules·specs.specs.Asks.{look}
-use Rattle·rules·specs.specs.Codes.{_gets_, Answering}
-use Rattle·rules·specs.specs.Examples.{node}
-use Rattle·rules·specs.specs.Limits.{slotsAfter}
-use Rattle·rules·specs.specs.Nodes.{blank}
-use Rattle·rules·specs.specs.WellFormed.{upTo, numbersRule, rootRange, childRule, freePair, freeSlot, nodeRule, pairRule, reachRule, roomRule}
+use Rattle.std.specs.Prelude.{ℕ, ◌≡◌, true, false, ◌&&◌, [], ◌∷◌, pos, negsuc, replicate}
+use Rattle.rules.specs.declared.Ledger.{Ledger}
+use Rattle.rules.specs.declared.Node.{Node}
+use Rattle.rules.specs.Asks.{look}
+use Rattle.rules.specs.Codes.{◌gets◌, Answering}
+use Rattle.rules.specs.Examples.{node}
+use Rattle.rules.specs.Limits.{slots_after}
+use Rattle.rules.specs.Nodes.{blank}
+use Rattle.rules.specs.WellFormed.{up_to, numbers_rule, root_range, child_rule, free_pair, free_slot, node_rule, pair_rule, reach_rule, room_rule}
 
 -- a table of three slots, all of them used; the rules below do not ask for more
-abbrev pub threeSlots : Node → Node → Node → Ledger
-threeSlots x a b = record { start = 0; until = 8; teams = 2; room = 3; used = 3; nodes = x ∷ a ∷ b ∷ [] }
+abbrev pub three_slots : Node → Node → Node → Ledger
+three_slots x a b = record { start = 0; until = 8; teams = 2; room = 3; used = 3; nodes = x ∷ a ∷ b ∷ [] }
 
 -- 0..8, split at 3 into a pair, and the two nodes of it
-abbrev pub parentOf : ℕ → Node
-parentOf c = node 0 8 (negsuc 3) 1 c
+abbrev pub parent_of : ℕ → Node
+parent_of c = node 0 8 (negsuc 3) 1 c
 
-abbrev pub leftOne : Node
-leftOne = node 3 5 (pos 3) 1 0
+abbrev pub left_one : Node
+left_one = node 3 5 (pos 3) 1 0
 
-abbrev pub rightOne : Node
-rightOne = node 5 8 (pos 5) 2 0
+abbrev pub right_one : Node
+right_one = node 5 8 (pos 5) 2 0
 
 -- 0..8 without children
 abbrev pub single : Node
@@ -42,32 +37,32 @@ ring =
       teams = 2;
       room = 3;
       used = 3;
-      nodes = node 0 1 (pos 0) 0 0 ∷ node 0 0 (pos 0) 0 0 ∷ node 0 1 (negsuc 0) 1 2 ∷ replicate (slotsAfter 3) blank;
+      nodes = node 0 1 (pos 0) 0 0 ∷ node 0 0 (pos 0) 0 0 ∷ node 0 1 (negsuc 0) 1 2 ∷ replicate (slots_after 3) blank;
     }
 
 pub record EachRule : Type 0 where
   -- "left is even [..] and below the used count"; it may be lower than its parent's number
-  pub even-left : childRule 5 (parentOf 4) leftOne rightOne ≡ true
-  pub odd-left : childRule 5 (parentOf 3) leftOne rightOne ≡ false
-  pub far-left : childRule 4 (parentOf 4) leftOne rightOne ≡ false
+  pub even_left : child_rule 5 (parent_of 4) left_one right_one ≡ true
+  pub odd_left : child_rule 5 (parent_of 3) left_one right_one ≡ false
+  pub far_left : child_rule 4 (parent_of 4) left_one right_one ≡ false
   -- a pair is free where both slots are all 0
-  pub both-free : freePair (threeSlots single blank blank) 2 ≡ true
-  pub left-free : freePair (threeSlots single blank rightOne) 2 ≡ false
-  pub right-free : freePair (threeSlots single leftOne blank) 2 ≡ false
-  pub slots-free : upTo (nodeRule (threeSlots single blank blank)) 3 ≡ true
-  pub root-blank : freeSlot (threeSlots blank blank blank) 1 ≡ false
+  pub both_free : free_pair (three_slots single blank blank) 2 ≡ true
+  pub left_free : free_pair (three_slots single blank right_one) 2 ≡ false
+  pub right_free : free_pair (three_slots single left_one blank) 2 ≡ false
+  pub slots_free : up_to (node_rule (three_slots single blank blank)) 3 ≡ true
+  pub root_blank : free_slot (three_slots blank blank blank) 1 ≡ false
   -- "nobody's left child exactly if its pair is free", and else of exactly one node
-  pub one-parent : pairRule (threeSlots (parentOf 2) leftOne rightOne) 2 ≡ true
-  pub two-parents : pairRule (threeSlots (parentOf 2) leftOne (parentOf 2)) 2 ≡ false
-  pub no-parent : pairRule (threeSlots single leftOne rightOne) 2 ≡ false
-  pub nobodys : pairRule (threeSlots single blank blank) 2 ≡ true
-  pub free-child : pairRule (threeSlots (parentOf 2) blank blank) 2 ≡ false
+  pub one_parent : pair_rule (three_slots (parent_of 2) left_one right_one) 2 ≡ true
+  pub two_parents : pair_rule (three_slots (parent_of 2) left_one (parent_of 2)) 2 ≡ false
+  pub no_parent : pair_rule (three_slots single left_one right_one) 2 ≡ false
+  pub nobodys : pair_rule (three_slots single blank blank) 2 ≡ true
+  pub free_child : pair_rule (three_slots (parent_of 2) blank blank) 2 ≡ false
   -- every other rule lets the ring in
-  pub ring-else : (numbersRule ring
-      && rootRange ring
-      && upTo (nodeRule ring) (ring .used)
-      && upTo (pairRule ring) (ring .used)
-      && roomRule ring)
+  pub ring_else : (numbers_rule ring
+      && root_range ring
+      && up_to (node_rule ring) ring.used
+      && up_to (pair_rule ring) ring.used
+      && room_rule ring)
       ≡ true
-  pub ring-out : upTo (reachRule ring) (ring .used) ≡ false
-  pub ring-refused : Answering ring ((look 1 1 gets 1) ∷ [])
+  pub ring_out : up_to (reach_rule ring) ring.used ≡ false
+  pub ring_refused : Answering ring ((look 1 1 gets 1) ∷ [])

@@ -1,9 +1,10 @@
 // The ledger's types and their limits. Document 01's rules over them are the definitions of specs/; its demands are theorems of this crate.
-ghost use mathlib.Core.Path.{_≡_};
-ghost use Rattle·rules·specs.specs.Asks.{request};
-ghost use Rattle·rules·specs.specs.Limits.{opens};
+ghost use Rattle.std.specs.Prelude.{◌≡◌};
+ghost use Rattle.rules.specs.Asks.{request};
+ghost use Rattle.rules.specs.Limits.{opens};
 
 // The five numbers that an opening takes. `cap`, the largest step, belongs to the run; `nodes` is the table room.
+#[derive(Drop)]
 pub struct Opening {
     pub start: i32,
     pub until: i32,
@@ -13,6 +14,7 @@ pub struct Opening {
 }
 
 // A result: a count of finds, with the labels of the first and of the last.
+#[derive(Drop)]
 pub struct Finds {
     pub count: u32,
     pub first: u32,
@@ -21,6 +23,7 @@ pub struct Finds {
 
 // A node: its range start..until, its progress, its owner (0 is nobody) and its left child (0 is none); its own result, that joined with its
 // children's, and how far its report has come.
+#[derive(Drop)]
 pub struct Node {
     pub start: u32,
     pub until: u32,
@@ -33,6 +36,7 @@ pub struct Node {
 }
 
 // Node n stands in slot n - 1 of the table.
+#[derive(Drop)]
 pub struct Ledger {
     pub start: u32,
     pub until: u32,
@@ -43,11 +47,13 @@ pub struct Ledger {
 }
 
 // An opened ledger, or the code of a refusal with a ledger that is all 0.
+#[derive(Drop)]
 pub struct Opened {
     pub code: u32,
     pub ledger: Ledger,
 }
 
+#[derive(Drop)]
 pub struct Request {
     pub kind: i32,
     pub team: i32,
@@ -59,6 +65,7 @@ pub struct Request {
     pub last: i32,
 }
 
+#[derive(Drop)]
 pub struct Answer {
     pub code: u32,
     pub state: u32,
@@ -69,6 +76,7 @@ pub struct Answer {
 }
 
 // A request's answer, with the ledger after it.
+#[derive(Drop)]
 pub struct Answered {
     pub ledger: Ledger,
     pub answer: Answer,
@@ -76,6 +84,7 @@ pub struct Answered {
 
 // All that a request sees of a well-formed ledger: a few numbers, the slots ever used, those in use and the STOLEN nodes among them; the
 // number that a new pair would get, its node and that node's children.
+#[derive(Drop)]
 pub struct View {
     pub teams: u32,
     pub room: u32,
@@ -91,6 +100,7 @@ pub struct View {
 // What a request does to its node, and no more: nothing; the owner becomes a team; the progress becomes a position, or the mark of one; the
 // node gets a pair of children, or its own result; or its joined one, which is made where it is stored; or its children are folded into it,
 // and their pair is free.
+#[derive(Drop)]
 pub enum Change {
     Keep,
     Own(u32),
@@ -102,12 +112,14 @@ pub enum Change {
     Fold,
 }
 
+#[derive(Drop)]
 pub struct Outcome {
     pub answer: Answer,
     pub change: Change,
 }
 
 // The unclaimed count, or the code of its refusal with a count of 0.
+#[derive(Drop)]
 pub struct Unclaimed {
     pub code: u32,
     pub count: u64,
@@ -125,7 +137,7 @@ impl Opening {
 
     // Whether the numbers are within an opening's limits.
     pub fn is_good(self) -> bool
-        ensures { λ r. ⌜ r ≡ opens self ⌝ }
+        ensures { result ≡ opens self }
     {
         let ordered = numbers::in_range(self.start, 0, numbers::natural(self.until));
         let ends = numbers::in_range(self.until, 0, Opening::UNTIL);
@@ -195,7 +207,7 @@ impl Request {
         first: i32,
         last: i32,
     ) -> Request
-        ensures { λ r. ⌜ r ≡ request kind team node position amount count first last ⌝ }
+        ensures { result ≡ request kind team node position amount count first last }
     {
         Request {
             kind: kind,

@@ -1,110 +1,110 @@
 -- No step of a run is refused.
-use mathlib.Core.Path.{_≡_, refl, sym, subst, _∙_}
+use mathlib.Core.Path.{◌≡◌, refl, sym, subst, ◌∙◌}
 use mathlib.Core.Bool.{true}
-use mathlib.Core.List.{List, [], _∷_}
-use Prim.Native.Nat.{ℕ, _-_, _≤_}
+use mathlib.Core.List.{List, [], ◌∷◌}
+use Prim.Native.Nat.{ℕ, ◌-◌, ◌≤◌}
 use native.Mathlib.Omega.{arith}
-use native.Mathlib.Decide.{ℕ-discrete}
+use native.Mathlib.Decide.{ℕ_discrete}
 use lib.IntN.{ℤ, pos}
 use lib.ListN.{length, set, length-set}
-use lib.Seq.{getD-set-same, getD-set-other}
+use lib.Seq.{get_or-set_same, get_or-set_other}
 use borrow.Author.Tests.{le-ltb}
-use Rattle·numbers.specs.Fields.{within, natOf}
-use Rattle·numbers.proofs.Laws.{within-true, within-made}
-use Rattle·rules.specs.declared.Opening.{Opening}
-use Rattle·rules.specs.Limits.{opens, maxCap}
-use Rattle·rules.proofs.Opens.{opened-wf}
-use Rattle·rules.proofs.Record.{WF, rules, rules-back, used-high}
-use Rattle·steps.specs.declared.Team.{Team}
-use Rattle·steps.specs.declared.Stepped.{Stepped}
-use Rattle·steps.specs.Records.{maxNode, noTeam}
-use Rattle·steps.specs.Step.{stepAt, lentCode}
-use Rattle·steps.specs.Run.{Run, FreshFor, withRecords, begun, stepTeam, runSteps, runTeams}
-use Rattle·runs·specs.specs.Demands.{NeverRefused}
-use Rattle·runs·proofs.proofs.Runs.{at-team, step-wf, step-teams, by-step, opened-teams}
-use Rattle·runs·proofs.proofs.Fits.{none, Fit, fit-more, step-fit, step-grows}
+use Rattle.numbers.specs.Fields.{within, nat_of}
+use Rattle.numbers.proofs.Laws.{within_true, within_made}
+use Rattle.rules.specs.declared.Opening.{Opening}
+use Rattle.rules.specs.Limits.{opens, max_cap}
+use Rattle.rules.proofs.Opens.{opened_wf}
+use Rattle.rules.proofs.Record.{WF, rules, rules_back, used_high}
+use Rattle.steps.specs.declared.Team.{Team}
+use Rattle.steps.specs.declared.Stepped.{Stepped}
+use Rattle.steps.specs.Records.{max_node, no_team}
+use Rattle.steps.specs.Step.{step_at, lent_code}
+use Rattle.steps.specs.Run.{Run, FreshFor, with_records, begun, step_team, run_steps, run_teams}
+use Rattle.runs.specs.Demands.{NeverRefused}
+use Rattle.runs.proofs.Runs.{at_team, step_wf, step_teams, by_step, opened_teams}
+use Rattle.runs.proofs.Fits.{none, Fit, fit_more, step_fit, step_grows}
 
-module _ (cap : ℤ) (limited : within cap 1 maxCap ≡ true) where
-  some : 1 ≤ natOf cap
-  some = within-true cap 1 maxCap limited .low
+module _ (cap : ℤ) (limited : within cap 1 max_cap ≡ true) where
+  some : 1 ≤ nat_of cap
+  some = (within_true cap 1 max_cap limited).low
 
   pub record Fitting (teams : ℕ) (u : Run) : Type 0 where
-    pub wf : WF (u .ledger)
-    pub size : u .ledger .teams ≤ length (u .records)
-    pub teams-are : u .ledger .teams ≡ teams
-    pub fits : (k : ℕ) → 1 ≤ k → k ≤ teams → Fit (natOf cap) (u .ledger .used) (at-team (u .records) k)
+    pub wf : WF u.ledger
+    pub size : u.ledger.teams ≤ length u.records
+    pub teams_are : u.ledger.teams ≡ teams
+    pub fits : (k : ℕ) → 1 ≤ k → k ≤ teams → Fit (nat_of cap) u.ledger.used (at_team u.records k)
 
-  module _ (teams : ℕ) (u : Run) (g : Fitting teams u) (t : ℕ) (tl : 1 ≤ t) (th : t ≤ u .ledger .teams) where
+  module _ (teams : ℕ) (u : Run) (g : Fitting teams u) (t : ℕ) (tl : 1 ≤ t) (th : t ≤ u.ledger.teams) where
     abbrev r : Team
-    r = at-team (u .records) t
+    r = at_team u.records t
 
     abbrev v : Stepped
-    v = stepAt t (natOf cap) (u .ledger) r
+    v = step_at t (nat_of cap) u.ledger r
 
-    mine : Fit (natOf cap) (u .ledger .used) r
-    mine = g .fits t tl (omega (arith, g .teams-are))
+    mine : Fit (nat_of cap) u.ledger.used r
+    mine = g.fits t tl (omega (arith, g.teams_are))
 
-    stepped-fits : (k : ℕ) → 1 ≤ k → k ≤ teams → Fit (natOf cap) (v .ledger .used) (at-team (set (u .records) (t - 1) (v .team)) k)
-    stepped-fits k a b = go (ℕ-discrete k t)
+    stepped_fits : (k : ℕ) → 1 ≤ k → k ≤ teams → Fit (nat_of cap) v.ledger.used (at_team (set u.records (t - 1) v.team) k)
+    stepped_fits k a b = go (ℕ_discrete k t)
       where
-        go : Dec (k ≡ t) → Fit (natOf cap) (v .ledger .used) (at-team (set (u .records) (t - 1) (v .team)) k)
+        go : Dec (k ≡ t) → Fit (nat_of cap) v.ledger.used (at_team (set u.records (t - 1) v.team) k)
         go (yes e) =
             rw
-            (e, getD-set-same (u .records) (t - 1) (v .team) noTeam (omega (arith, g .size)))
-            (step-fit t (natOf cap) some (u .ledger) (g .wf) tl th r mine (r .place))
+            (e, get_or-set_same u.records (t - 1) v.team no_team (omega (arith, g.size)))
+            (step_fit t (nat_of cap) some u.ledger g.wf tl th r mine r.place)
         go (no ne) =
             rw
-            (getD-set-other (u .records) (t - 1) (k - 1) (v .team) noTeam (omega arith))
-            (fit-more (step-grows t (natOf cap) some (u .ledger) (g .wf) tl th r mine (r .place)) (g .fits k a b))
+            (get_or-set_other u.records (t - 1) (k - 1) v.team no_team (omega arith))
+            (fit_more (step_grows t (nat_of cap) some u.ledger g.wf tl th r mine r.place) (g.fits k a b))
 
-  kept : (teams : ℕ) (u : Run) (number : ℤ) → Fitting teams u → Fitting teams (stepTeam cap u number)
+  kept : (teams : ℕ) (u : Run) (number : ℤ) → Fitting teams u → Fitting teams (step_team cap u number)
   kept teams u number g =
-      by-step cap (Fitting teams) u number g (λ h.
-      let t = natOf number in
-      let same = step-teams (natOf cap) t (u .ledger) (g .wf) (r teams u g t (h .team .low) (h .team .high)) (r teams u g t (h .team .low) (h .team .high) .place) in
+      by_step cap (Fitting teams) u number g (λ h.
+      let t = nat_of number in
+      let same = step_teams (nat_of cap) t u.ledger g.wf (r teams u g t h.team.low h.team.high) (r teams u g t h.team.low h.team.high).place in
       record {
-        wf = step-wf (natOf cap) t (u .ledger) (g .wf) _ _;
-        size = omega (arith, same, g .size, length-set (u .records) (t - 1) (v teams u g t (h .team .low) (h .team .high) .team));
-        teams-are = same ∙ g .teams-are;
-        fits = stepped-fits teams u g t (h .team .low) (h .team .high);
+        wf = step_wf (nat_of cap) t u.ledger g.wf _ _;
+        size = omega (arith, same, g.size, length-set u.records (t - 1) (v teams u g t h.team.low h.team.high).team);
+        teams_are = same ∙ g.teams_are;
+        fits = stepped_fits teams u g t h.team.low h.team.high;
       })
 
-  pub run-fits : (teams : ℕ) (schedule : List ℤ) (u : Run) → Fitting teams u → Fitting teams (runTeams cap u schedule)
-  unfolding runSteps
-  run-fits teams [] u g = g
-  run-fits teams (number ∷ later) u g = run-fits teams later (stepTeam cap u number) (kept teams u number g)
+  pub run_fits : (teams : ℕ) (schedule : List ℤ) (u : Run) → Fitting teams u → Fitting teams (run_teams cap u schedule)
+  unfolding run_steps
+  run_fits teams [] u g = g
+  run_fits teams (number ∷ later) u g = run_fits teams later (step_team cap u number) (kept teams u number g)
 
   -- the step is not refused
-  let-through : (teams : ℕ) (u : Run) → Fitting teams u → (k : ℕ) → 1 ≤ k → k ≤ teams → lentCode (u .ledger) (pos k) cap (u .records) ≡ 0
-  unfolding lentCode
-  let-through teams u g k low high =
-      let f = g .fits k low high in
-      let w = g .wf in
-      let r = at-team (u .records) k in
+  let_through : (teams : ℕ) (u : Run) → Fitting teams u → (k : ℕ) → 1 ≤ k → k ≤ teams → lent_code u.ledger (pos k) cap u.records ≡ 0
+  unfolding lent_code
+  let_through teams u g k low high =
+      let f = g.fits k low high in
+      let w = g.wf in
+      let r = at_team u.records k in
       rw
-      (rules-back (u .ledger) w, within-made k 1 (u .ledger .teams) low (omega (arith, g .teams-are)), le-ltb (length (u .records)) (u .ledger .teams) (g .size), limited, within-made (r .node) 1 maxNode (f .low) (omega (arith, f .high, used-high (u .ledger) w)), within-made (r .size) 1 (natOf cap) (f .least) (f .most))
+      (rules_back u.ledger w, within_made k 1 u.ledger.teams low (omega (arith, g.teams_are)), le-ltb (length u.records) u.ledger.teams g.size, limited, within_made r.node 1 max_node f.low (omega (arith, f.high, used_high u.ledger w)), within_made r.size 1 (nat_of cap) f.least f.most)
 
-  pub never-refused-at : (teams : ℕ) (u : Run) → Fitting teams u → (number : ℤ) → within number 1 teams ≡ true
-      → lentCode (u .ledger) number cap (u .records) ≡ 0
-  never-refused-at teams u g number e =
-      let h = within-true number 1 teams e in
-      rw (h .is) (let-through teams u g (natOf number) (h .low) (h .high))
+  pub never_refused_at : (teams : ℕ) (u : Run) → Fitting teams u → (number : ℤ) → within number 1 teams ≡ true
+      → lent_code u.ledger number cap u.records ≡ 0
+  never_refused_at teams u g number e =
+      let h = within_true number 1 teams e in
+      rw h.is (let_through teams u g (nat_of number) h.low h.high)
 
   -- any well-formed ledger and fresh records
-  pub fresh-fits : (teams : ℕ) (u : Run) → WF (u .ledger) → u .ledger .teams ≡ teams → FreshFor teams (u .records) → Fitting teams u
-  fresh-fits teams u w is fresh = record { wf = w; size = omega (arith, fresh .enough); teams-are = is; fits = start }
+  pub fresh_fits : (teams : ℕ) (u : Run) → WF u.ledger → u.ledger.teams ≡ teams → FreshFor teams u.records → Fitting teams u
+  fresh_fits teams u w is fresh = record { wf = w; size = omega (arith, fresh.enough); teams_are = is; fits = start }
     where
-      start : (k : ℕ) → 1 ≤ k → k ≤ teams → Fit (natOf cap) (u .ledger .used) (at-team (u .records) k)
+      start : (k : ℕ) → 1 ≤ k → k ≤ teams → Fit (nat_of cap) u.ledger.used (at_team u.records k)
       start k p q =
           subst
-          (Fit (natOf cap) (u .ledger .used))
-          (sym (fresh .each k p q))
+          (Fit (nat_of cap) u.ledger.used)
+          (sym (fresh.each k p q))
           (record { low = omega arith; high = omega arith; least = omega arith; most = some; known = none })
 
-  pub begun-fits : (o : Opening) (rs : List Team) → opens o ≡ true → FreshFor (natOf (o .teams)) rs
-      → Fitting (natOf (o .teams)) (begun o rs)
-  begun-fits o rs ok fresh = fresh-fits (natOf (o .teams)) (begun o rs) (opened-wf o ok) (opened-teams o) fresh
+  pub begun_fits : (o : Opening) (rs : List Team) → opens o ≡ true → FreshFor (nat_of o.teams) rs
+      → Fitting (nat_of o.teams) (begun o rs)
+  begun_fits o rs ok fresh = fresh_fits (nat_of o.teams) (begun o rs) (opened_wf o ok) (opened_teams o) fresh
 
-pub never-refused : NeverRefused
-never-refused l cap rs schedule number s limited fresh e =
-    never-refused-at cap limited (l .teams) _ (run-fits cap limited (l .teams) schedule _ (fresh-fits cap limited (l .teams) (withRecords l rs) (rules l s) refl fresh)) number e
+pub never_refused : NeverRefused
+never_refused l cap rs schedule number s limited fresh e =
+    never_refused_at cap limited l.teams _ (run_fits cap limited l.teams schedule _ (fresh_fits cap limited l.teams (with_records l rs) (rules l s) refl fresh)) number e

@@ -1,8 +1,7 @@
 -- A new scanner's first token, and where the scanner then stands.
-use Prim.Native.Nat.{ℕ}
-use mathlib.Core.List.{List}
-use Rattle·text_rules.specs.Tokens.{tokenAt}
-use Rattle·scanner_shown·specs.specs.declared.Found.{Found}
+use Rattle.std.specs.Prelude.{ℕ, List}
+use Rattle.text_rules.specs.Tokens.{token_at}
+use Rattle.scanner_shown.specs.declared.Found.{Found}
 
-abbrev pub foundIn : List ℕ → Found
-foundIn text = record { token = tokenAt text 0; place = tokenAt text 0 .end }
+abbrev pub found_in : List ℕ → Found
+found_in text = record { token = token_at text 0; place = (token_at text 0).end }

@@ -1,19 +1,20 @@
 // The scanner at work: what it finds in each text, one token after the other, each with the place past it. A scanner is made of what is left of
 // the text and asked for one token, since a program that keeps a scanner over a loop would be one long proof by hand.
-ghost use mathlib.Core.Path.{_≡_};
-ghost use Rattle·scanner_shown·specs.specs.First.{foundIn};
+ghost use Rattle.std.specs.Prelude.{◌≡◌};
+ghost use Rattle.scanner_shown.specs.First.{found_in};
+
 use libc::STDOUT_FILENO;
-use text_rules::Kind;
-use text_rules::Token;
+use text_rules::{Kind, Token};
 
 // The first token of a text, and the place of the scanner past it.
+#[derive(Drop)]
 struct Found {
     token: Token,
     place: usize,
 }
 
 fn found_in(text: &[u8]) -> Found
-    ensures { λ r. ⌜ r ≡ foundIn (now (text .entry)) ⌝ }
+    ensures { result ≡ found_in text.now }
 {
     let mut s = scanner::new(text);
     let token = scanner::next(&mut s);

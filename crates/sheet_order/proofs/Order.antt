@@ -1,67 +1,67 @@
 -- The pieces of a node, as the code gathers them, and that their sheets are the rules' listing.
-use Prim.Native.Nat.{ℕ, zero, suc, _+_, _-_, _≤_, _<_}
-use mathlib.Core.Path.{_≡_, refl, ap}
-use mathlib.Core.Logic.{_≢_}
+use Prim.Native.Nat.{ℕ, zero, suc, ◌+◌, ◌-◌, ◌≤◌, ◌<◌}
+use mathlib.Core.Path.{◌≡◌, refl, ap}
+use mathlib.Core.Logic.{◌≢◌}
 use mathlib.Core.Bool.{Bool, true, false, cond}
-use mathlib.Core.List.{List, [], _∷_, _++_, append-assoc, append-nil, map}
+use mathlib.Core.List.{List, [], ◌∷◌, ◌++◌, append_assoc, append-nil, map}
 use native.Mathlib.Numerals.{add-one}
 use native.Mathlib.Omega.{arith}
 use lib.Dec.{eqb}
-use lib.ListN.{length, getD, length-append}
-use borrow.Author.Tests.{eqb-false, eq-eqb, ne-eqb}
-use Rattle·rules.specs.declared.Ledger.{Ledger}
-use Rattle·rules.specs.Limits.{maxNodes}
-use Rattle·laws.specs.Listed.{listed}
-use Rattle·laws.specs.Listing.{sheets, grantedFrom}
-use Rattle·rules.specs.Nodes.{positionOf, childless}
-use Rattle·rules.specs.Table.{at}
-use Rattle·sheet_order·specs.specs.declared.Piece.{Piece}
-use Rattle·sheet_order·specs.specs.declared.Pieces.{Pieces}
-use Rattle·sheet_order·specs.specs.Row.{noPiece, withPiece, withAll}
-use Rattle·rules.proofs.Record.{WF, rules, used-high, left-used, right-used}
-use Rattle·rules.proofs.Tree.{Tree, leaf, fork}
-use Rattle·rules.proofs.TreeSize.{sumTree, size, size-some, rooted-size}
-use Rattle·sheet_order·specs.specs.Order.{Readable, grantedTo, asBatch, sheetsOf, fromNode, unclaimedPiece, pieces}
-use Rattle·sheet_order·proofs.proofs.Row.{withAll-both, withAll-one}
+use lib.ListN.{length, get_or, length-append}
+use borrow.Author.Tests.{eqb-false, eq-eqb, ne_eqb}
+use Rattle.rules.specs.declared.Ledger.{Ledger}
+use Rattle.rules.specs.Limits.{max_nodes}
+use Rattle.laws.specs.Listed.{listed}
+use Rattle.laws.specs.Listing.{sheets, granted_from}
+use Rattle.rules.specs.Nodes.{position_of, childless}
+use Rattle.rules.specs.Table.{at}
+use Rattle.sheet_order.specs.declared.Piece.{Piece}
+use Rattle.sheet_order.specs.declared.Pieces.{Pieces}
+use Rattle.sheet_order.specs.Row.{no_piece, with_piece, with_all}
+use Rattle.rules.proofs.Record.{WF, rules, used_high, left_used, right_used}
+use Rattle.rules.proofs.Tree.{Tree, leaf, fork}
+use Rattle.rules.proofs.TreeSize.{sum_tree, size, size_some, rooted_size}
+use Rattle.sheet_order.specs.Order.{Readable, granted_to, as_batch, sheets_of, from_node, unclaimed_piece, pieces}
+use Rattle.sheet_order.proofs.Row.{with_all_both, with_all_one}
 
 -- ---- gathering
 
 module _ (g : Pieces) (ps : List Piece) (n : ℕ) where
-  pub granted-none : g ≡ withAll g (fromNode (grantedTo ps 0) n)
-  unfolding grantedTo fromNode withAll
-  granted-none = refl
+  pub granted_none : g ≡ with_all g (from_node (granted_to ps 0) n)
+  unfolding granted_to from_node with_all
+  granted_none = refl
 
-  pub granted-more : (i : ℕ) {h k : Pieces}
-      → h ≡ withAll g (fromNode (grantedTo ps i) n)
-      → k ≡ withAll h (cond (eqb (getD ps i noPiece .node) n) (getD ps i noPiece ∷ []) [])
-      → k ≡ withAll g (fromNode (grantedTo ps (i + 1)) n)
-  unfolding grantedTo fromNode
-  granted-more i e f = rw (add-one i, withAll-both, ← e) f
+  pub granted_more : (i : ℕ) {h k : Pieces}
+      → h ≡ with_all g (from_node (granted_to ps i) n)
+      → k ≡ with_all h (cond (eqb (get_or ps i no_piece).node n) (get_or ps i no_piece ∷ []) [])
+      → k ≡ with_all g (from_node (granted_to ps (i + 1)) n)
+  unfolding granted_to from_node
+  granted_more i e f = rw (add-one i, with_all_both, ← e) f
 
-pub node-none : (g : Pieces) (depth : ℕ) (l : Ledger) (ps : List Piece) (n : ℕ) → depth ≡ 0 → g ≡ withAll g (pieces depth l ps n)
-unfolding pieces withAll
-node-none g depth l ps n e = rw e
+pub node_none : (g : Pieces) (depth : ℕ) (l : Ledger) (ps : List Piece) (n : ℕ) → depth ≡ 0 → g ≡ with_all g (pieces depth l ps n)
+unfolding pieces with_all
+node_none g depth l ps n e = rw e
 
-module _ (g own : Pieces) (l : Ledger) (ps : List Piece) (n : ℕ) (e : own ≡ withAll g (fromNode ps n)) where
-  pub node-ends : (depth : ℕ)
+module _ (g own : Pieces) (l : Ledger) (ps : List Piece) (n : ℕ) (e : own ≡ with_all g (from_node ps n)) where
+  pub node_ends : (depth : ℕ)
       → 0 < depth
       → childless (at l n) ≡ true
-      → withPiece own (unclaimedPiece n (at l n)) ≡ withAll g (pieces depth l ps n)
+      → with_piece own (unclaimed_piece n (at l n)) ≡ with_all g (pieces depth l ps n)
   unfolding pieces
-  node-ends depth some c =
+  node_ends depth some c =
       let d : depth ≡ suc (depth - 1) = omega arith in
-      rw (d, c, withAll-both, ← e, withAll-one)
+      rw (d, c, with_all_both, ← e, with_all_one)
 
-  pub node-parts : (depth : ℕ) {h k : Pieces}
+  pub node_parts : (depth : ℕ) {h k : Pieces}
       → 0 < depth
       → childless (at l n) ≡ false
-      → h ≡ withAll own (pieces (depth - 1) l ps (at l n .left))
-      → k ≡ withAll h (pieces (depth - 1) l ps (at l n .left + 1))
-      → k ≡ withAll g (pieces depth l ps n)
+      → h ≡ with_all own (pieces (depth - 1) l ps (at l n).left)
+      → k ≡ with_all h (pieces (depth - 1) l ps ((at l n).left + 1))
+      → k ≡ with_all g (pieces depth l ps n)
   unfolding pieces
-  node-parts depth some c a b =
+  node_parts depth some c a b =
       let d : depth ≡ suc (depth - 1) = omega arith in
-      rw (d, c, withAll-both, ← e, withAll-both, ← a) b
+      rw (d, c, with_all_both, ← e, with_all_both, ← a) b
 
 -- ---- going down
 
@@ -69,63 +69,63 @@ module _ (g own : Pieces) (l : Ledger) (ps : List Piece) (n : ℕ) (e : own ≡ 
 pub children : (l : Ledger) (g : Pieces) (n : ℕ)
     → Readable l g n
     → childless (at l n) ≡ false
-    → Readable l g (at l n .left) × Readable l g (at l n .left + 1)
+    → Readable l g (at l n).left × Readable l g ((at l n).left + 1)
 children l g n r c =
-    let w = rules l (r .sound) in
-    let some : 0 < at l n .left = omega (arith, eqb-false (at l n .left) 0 c) in (
-      record { sound = r .sound; grants = r .grants; used = left-used l w n (r .used) some },
-      record { sound = r .sound; grants = r .grants; used = right-used l w n (r .used) some },
+    let w = rules l r.sound in
+    let some : 0 < (at l n).left = omega (arith, eqb-false (at l n).left 0 c) in (
+      record { sound = r.sound; grants = r.grants; used = left_used l w n r.used some },
+      record { sound = r.sound; grants = r.grants; used = right_used l w n r.used some },
     )
 
 -- and so are numbers of slots
-pub slot-small : (l : Ledger) (g : Pieces) (n : ℕ) → Readable l g n → n ≤ maxNodes
-slot-small l g n r = omega (arith, used-high l (rules l (r .sound)), r .used .high)
+pub slot_small : (l : Ledger) (g : Pieces) (n : ℕ) → Readable l g n → n ≤ max_nodes
+slot_small l g n r = omega (arith, used_high l (rules l r.sound), r.used.high)
 
 -- as deep as the tree is large, a node has pieces
-some-below : (l : Ledger) (ps : List Piece) (depth : ℕ) {n : ℕ} (t : Tree l n) → size t ≤ depth → 0 < length (pieces depth l ps n)
-unfolding pieces size sumTree
-some-below l ps zero t h = absurd (omega (arith, size-some t))
-some-below l ps (suc depth) (leaf {n = n} u e) h = rw (eq-eqb (at l n .left) 0 e, length-append) (omega arith)
-some-below l ps (suc depth) (fork {n = n} u some e x y) h =
-    let ne : at l n .left ≢ 0 = omega arith in
-    let b : 0 < length (pieces depth l ps (at l n .left)) = rw e (some-below l ps depth x (omega arith)) in
-    simp (ne-eqb (at l n .left) 0 ne, length-append) (omega arith)
+some_below : (l : Ledger) (ps : List Piece) (depth : ℕ) {n : ℕ} (t : Tree l n) → size t ≤ depth → 0 < length (pieces depth l ps n)
+unfolding pieces size sum_tree
+some_below l ps zero t h = absurd (omega (arith, size_some t))
+some_below l ps (suc depth) (leaf {n = n} u e) h = rw (eq-eqb (at l n).left 0 e, length-append) (omega arith)
+some_below l ps (suc depth) (fork {n = n} u some e x y) h =
+    let ne : (at l n).left ≢ 0 = omega arith in
+    let b : 0 < length (pieces depth l ps (at l n).left) = rw e (some_below l ps depth x (omega arith)) in
+    simp (ne_eqb (at l n).left 0 ne, length-append) (omega arith)
 
 -- and as deep as there are nodes, so has the root
-pub some-piece : (l : Ledger) (ps : List Piece) → WF l → 0 < length (pieces (l .used) l ps 1)
-some-piece l ps w = some-below l ps (l .used) (w .rooted .tree) (rooted-size l (w .rooted))
+pub some_piece : (l : Ledger) (ps : List Piece) → WF l → 0 < length (pieces l.used l ps 1)
+some_piece l ps w = some_below l ps l.used w.rooted.tree (rooted_size l w.rooted)
 
 -- ---- its sheets
 
-sheets-both : (ps qs : List Piece) → sheetsOf (ps ++ qs) ≡ sheetsOf ps ++ sheetsOf qs
-unfolding sheetsOf
-sheets-both [] qs = refl
-sheets-both (p ∷ ps) qs = rw (sheets-both ps qs, append-assoc)
+sheets_both : (ps qs : List Piece) → sheets_of (ps ++ qs) ≡ sheets_of ps ++ sheets_of qs
+unfolding sheets_of
+sheets_both [] qs = refl
+sheets_both (p ∷ ps) qs = rw (sheets_both ps qs, append_assoc)
 
-sheets-one : (t : Bool) (p : Piece) → sheetsOf (cond t (p ∷ []) []) ≡ cond t (sheets (p .from) (p .to)) []
-unfolding sheetsOf
-sheets-one true p = rw append-nil
-sheets-one false p = refl
+sheets_one : (t : Bool) (p : Piece) → sheets_of (cond t (p ∷ []) []) ≡ cond t (sheets p.from p.to) []
+unfolding sheets_of
+sheets_one true p = rw append-nil
+sheets_one false p = refl
 
-sheets-granted : (ps : List Piece) (n : ℕ) → sheetsOf (fromNode ps n) ≡ grantedFrom (map asBatch ps) n
-unfolding sheetsOf fromNode grantedFrom
-sheets-granted [] n = refl
-sheets-granted (p ∷ ps) n = rw (sheets-both (fromNode ps n), sheets-granted ps n, sheets-one)
+sheets_granted : (ps : List Piece) (n : ℕ) → sheets_of (from_node ps n) ≡ granted_from (map as_batch ps) n
+unfolding sheets_of from_node granted_from
+sheets_granted [] n = refl
+sheets_granted (p ∷ ps) n = rw (sheets_both (from_node ps n), sheets_granted ps n, sheets_one)
 
 pub sheets-listed : (depth : ℕ) (l : Ledger) (ps : List Piece) (n : ℕ)
-    → sheetsOf (pieces depth l ps n) ≡ listed depth l (map asBatch ps) n
-unfolding sheetsOf pieces listed
+    → sheets_of (pieces depth l ps n) ≡ listed depth l (map as_batch ps) n
+unfolding sheets_of pieces listed
 sheets-listed zero l ps n = refl
 sheets-listed (suc depth) l ps n =
     rw
-    (sheets-both (fromNode ps n), sheets-granted ps n)
+    (sheets_both (from_node ps n), sheets_granted ps n)
     (ap
-    (λ (xs : List ℕ). grantedFrom (map asBatch ps) n ++ xs)
-    (go (childless (at l n)) (pieces depth l ps (at l n .left)) (pieces depth l ps (at l n .left + 1)) (sheets-listed depth l ps (at l n .left)) (sheets-listed depth l ps (at l n .left + 1))))
+    (λ (xs : List ℕ). granted_from (map as_batch ps) n ++ xs)
+    (go (childless (at l n)) (pieces depth l ps (at l n).left) (pieces depth l ps ((at l n).left + 1)) (sheets-listed depth l ps (at l n).left) (sheets-listed depth l ps ((at l n).left + 1))))
   where
     go : (t : Bool) (us vs : List Piece) {xs ys : List ℕ}
-        → sheetsOf us ≡ xs
-        → sheetsOf vs ≡ ys
-        → sheetsOf (cond t (unclaimedPiece n (at l n) ∷ []) (us ++ vs)) ≡ cond t (sheets (positionOf (at l n)) (at l n .until)) (xs ++ ys)
+        → sheets_of us ≡ xs
+        → sheets_of vs ≡ ys
+        → sheets_of (cond t (unclaimed_piece n (at l n) ∷ []) (us ++ vs)) ≡ cond t (sheets (position_of (at l n)) (at l n).until) (xs ++ ys)
     go true us vs p q = rw append-nil
-    go false us vs p q = rw (sheets-both us vs, p, q)
+    go false us vs p q = rw (sheets_both us vs, p, q)

@@ -1,18 +1,15 @@
 // The listing of a ledger's root, computed for small examples: who has which sheets, in the order in which the rules list them.
-ghost use mathlib.Core.Path.{_≡_};
-ghost use mathlib.Core.Bool.{cond};
-ghost use mathlib.Core.List.{_∷_, []};
-ghost use Prim.Native.Nat.{_≤_};
-ghost use lib.Dec.{eqb, leb};
-ghost use lib.ListN.{replicate};
-ghost use Rattle·sheet_order·specs.specs.Row.{most, noPiece, empty, withPiece, withAll};
-ghost use Rattle·sheet_order·specs.specs.Order.{Readable, fromNode, grantedTo, pieces, inOrder};
+ghost use Rattle.std.specs.Prelude.{◌≡◌, cond, ◌∷◌, [], ◌≤◌, eqb, leb, replicate};
+ghost use Rattle.sheet_order.specs.Row.{most, no_piece, empty, with_piece, with_all};
+ghost use Rattle.sheet_order.specs.Order.{Readable, from_node, granted_to, pieces, in_order};
+
 use rules::Ledger;
 
 // The most nodes of a ledger that is small enough: each call of `with_node` inside another holds a ledger of its own.
 const NODES: u32 = 31;
 
 // The sheets from..to of a node, granted to a team; unclaimed ones where the team is 0.
+#[derive(Drop)]
 pub struct Piece {
     pub team: u32,
     pub node: u32,
@@ -21,13 +18,14 @@ pub struct Piece {
 }
 
 // A row of pieces. A count of one past the most says that there were more.
+#[derive(Drop)]
 pub struct Pieces {
     pub count: usize,
     pub items: [Piece; Pieces::MOST],
 }
 
 fn no_piece() -> Piece
-    ensures { λ r. ⌜ r ≡ noPiece ⌝ }
+    ensures { result ≡ no_piece }
 {
     Piece {
         team: 0,
@@ -38,7 +36,7 @@ fn no_piece() -> Piece
 }
 
 fn no_items() -> [Piece; Pieces::MOST]
-    ensures { λ r. ⌜ r ≡ replicate most noPiece ⌝ }
+    ensures { result ≡ replicate most no_piece }
 {
     [no_piece(); Pieces::MOST]
 }
@@ -48,7 +46,7 @@ impl Pieces {
     pub const MOST: usize = 32;
 
     pub fn none() -> Pieces
-        ensures { λ r. ⌜ r ≡ empty ⌝ }
+        ensures { result ≡ empty }
     {
         let items = no_items();
         Pieces {
@@ -59,7 +57,7 @@ impl Pieces {
 
     // The row with a piece more at its end.
     pub fn with(self, p: Piece) -> Pieces
-        ensures { λ r. ⌜ r ≡ withPiece self p ⌝ }
+        ensures { result ≡ with_piece self p }
     {
         let mut row = self;
         if row.count < Pieces::MOST {
@@ -75,15 +73,15 @@ impl Pieces {
 
 // The row with p at its end, where p is of node n.
 fn with_own(row: Pieces, p: Piece, n: u32) -> Pieces
-    ensures { λ r. ⌜ r ≡ withAll row (cond (eqb (p .node) n) (p ∷ []) []) ⌝ }
+    ensures { result ≡ with_all row (cond (eqb p.node n) (p ∷ []) []) }
 {
     if p.node == n { row.with(p) } else { row }
 }
 
 // What was granted from node n, in the order in which it was granted, at the row's end.
 fn with_granted(row: Pieces, granted: Pieces, n: u32) -> Pieces
-    requires { ⌜ granted .count ≤ most ⌝ }
-    ensures { λ r. ⌜ r ≡ withAll row (fromNode (grantedTo (granted .items) (granted .count)) n) ⌝ }
+    requires { granted.count ≤ most }
+    ensures { result ≡ with_all row (from_node (granted_to granted.items granted.count) n) }
 {
     let mut out = row;
     let mut i = 0;
@@ -97,8 +95,8 @@ fn with_granted(row: Pieces, granted: Pieces, n: u32) -> Pieces
 
 // The pieces of node n, at the row's end: what was granted, then the children's pieces from left to right, or else what is unclaimed.
 fn with_node(row: Pieces, depth: u32, l: Ledger, granted: Pieces, n: u32) -> Pieces
-    requires { ⌜ Readable l granted n ⌝ }
-    ensures { λ r. ⌜ r ≡ withAll row (pieces depth l (grantedTo (granted .items) (granted .count)) n) ⌝ }
+    requires { Readable l granted n }
+    ensures { result ≡ with_all row (pieces depth l (granted_to granted.items granted.count) n) }
 {
     if depth == 0 {
         return row;
@@ -123,7 +121,7 @@ fn with_node(row: Pieces, depth: u32, l: Ledger, granted: Pieces, n: u32) -> Pie
 
 // A row that found no room for a piece is none.
 fn settled(row: Pieces) -> Pieces
-    ensures { λ r. ⌜ r ≡ cond (leb (row .count) most) row empty ⌝ }
+    ensures { result ≡ cond (leb row.count most) row empty }
 {
     if row.count <= Pieces::MOST {
         row
@@ -135,7 +133,7 @@ fn settled(row: Pieces) -> Pieces
 // The root's listing, where `granted` is what was granted so far, oldest first. The row is empty, and so refused, where the ledger is not
 // well formed or has over 31 nodes, and where over 32 pieces were granted or make the listing.
 pub fn in_order(l: Ledger, granted: Pieces) -> Pieces
-    ensures { λ r. ⌜ r ≡ inOrder l granted ⌝ }
+    ensures { result ≡ in_order l granted }
 {
     let small = (l.used <= NODES) & (granted.count <= Pieces::MOST);
     if forms::well_formed(l) & small {

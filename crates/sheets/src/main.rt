@@ -1,14 +1,12 @@
 // `sheets`: a schedule as text from standard input, its listing to standard output. No contract can say what is read or written: the
 // listing is `listing::list`, and this program only moves its bytes. Where a read fails nothing is written; where a read or a write fails,
 // a line on standard error says so.
-ghost use mathlib.Core.Path.{_≡_};
-ghost use Prim.Native.Nat.{_*_, _≤_, _<_};
-ghost use lib.ListN.{length};
-ghost use Rattle·io.specs.Counts.{Counts};
-ghost use Rattle·text_rules.specs.Demands.{scheduleRoom};
-ghost use Rattle·listing_rules.specs.Demands.{listingRoom, shortScheduleRoom, shortListingRoom};
-use libc::STDIN_FILENO;
-use libc::STDOUT_FILENO;
+ghost use Rattle.std.specs.Prelude.{◌≡◌, ◌*◌, ◌≤◌, ◌<◌, length};
+ghost use Rattle.io.specs.Counts.{IsPrefixLen};
+ghost use Rattle.text_rules.specs.Demands.{schedule_room};
+ghost use Rattle.listing_rules.specs.Demands.{listing_room, short_schedule_room, short_listing_room};
+
+use libc::{STDIN_FILENO, STDOUT_FILENO};
 use line_rules::Written;
 
 // Room for the most schedule numbers, and for the longest listing: a line for each of them, the open line and the left line, each as long
@@ -19,13 +17,13 @@ const BYTES: usize = Written::LONGEST * (NUMBERS + 2);
 
 // Only the areas' lengths are known to a caller, which is all that lending them needs.
 fn schedule_area() -> [i32; NUMBERS]
-    ensures { λ r. ⌜ scheduleRoom ≡ length r ⌝ }
+    ensures { schedule_room ≡ length result }
 {
     [0; NUMBERS]
 }
 
 fn listing_area() -> [u8; BYTES]
-    ensures { λ r. ⌜ listingRoom ≡ length r ⌝ }
+    ensures { listing_room ≡ length result }
 {
     [0; BYTES]
 }
@@ -38,18 +36,19 @@ const SHORT_NUMBERS: usize = 2048;
 const SHORT_BYTES: usize = Written::LONGEST * (SHORT_NUMBERS + 2);
 
 fn short_schedule_area() -> [i32; SHORT_NUMBERS]
-    ensures { λ r. ⌜ shortScheduleRoom ≡ length r ⌝ }
+    ensures { short_schedule_room ≡ length result }
 {
     [0; SHORT_NUMBERS]
 }
 
 fn short_listing_area() -> [u8; SHORT_BYTES]
-    ensures { λ r. ⌜ shortListingRoom ≡ length r ⌝ }
+    ensures { short_listing_room ≡ length result }
 {
     [0; SHORT_BYTES]
 }
 
 // How many bytes are moved so far, whether another call is to be made, and whether the last one found that nothing is left to move.
+#[derive(Drop)]
 struct Moved {
     count: usize,
     goes_on: bool,
@@ -57,7 +56,7 @@ struct Moved {
 }
 
 fn nothing_moved() -> Moved
-    ensures { λ r. ⌜ r .count ≡ 0 ⌝ }
+    ensures { result.count ≡ 0 }
 {
     Moved {
         count: 0,
@@ -69,7 +68,7 @@ fn nothing_moved() -> Moved
 // What a call's answer says, where `count` bytes are moved with its own. A call that was interrupted is made again; after any other that
 // failed neither of the two holds.
 fn after(answer: isize, count: usize) -> Moved
-    ensures { λ r. ⌜ r .count ≡ count ⌝ }
+    ensures { result.count ≡ count }
 {
     let is_interrupted = os::errno() == libc::EINTR;
     Moved {
@@ -80,16 +79,16 @@ fn after(answer: isize, count: usize) -> Moved
 }
 
 fn read_on(area: &mut [u8], done: usize) -> Moved
-    requires { ⌜ done ≤ length (now area) ⌝ }
-    ensures { λ r. ⌜ r .count ≤ length (now (area .exit)) ⌝ }
+    requires { done ≤ length area.old }
+    ensures { result.count ≤ length area.new }
 {
     let answer = libc::read(STDIN_FILENO, &mut area[done..]);
     after(answer, done + io::count(answer, &area[done..]))
 }
 
 fn write_on(bytes: &[u8], done: usize) -> Moved
-    requires { ⌜ done ≤ length (now bytes) ⌝ }
-    ensures { λ r. ⌜ r .count ≤ length (now (bytes .entry)) ⌝ }
+    requires { done ≤ length bytes.now }
+    ensures { result.count ≤ length bytes.now }
 {
     let answer = libc::write(STDOUT_FILENO, &bytes[done..]);
     after(answer, done + io::count(answer, &bytes[done..]))
@@ -98,7 +97,7 @@ fn write_on(bytes: &[u8], done: usize) -> Moved
 // Reads until the area is full, the input ends or a read fails. Nothing says that interruptions end, so the loop counts its turns down,
 // from a number that no run uses up.
 fn read_all(area: &mut [u8]) -> Moved
-    ensures { λ r. ⌜ Counts (r .count) (now (area .exit)) ⌝ }
+    ensures { IsPrefixLen result.count area.new }
 {
     let mut m = nothing_moved();
     let mut turns = u64::MAX;
@@ -133,7 +132,7 @@ fn print_listing(text: &[u8], schedule: &mut [i32], out: &mut [u8]) {
 }
 
 fn play_short(text: &[u8])
-    requires { ⌜ length (now text) < 2 * shortScheduleRoom ⌝ }
+    requires { length text.now < 2 * short_schedule_room }
 {
     let mut schedule = short_schedule_area();
     let mut out = short_listing_area();

@@ -1,37 +1,33 @@
 -- Worked examples of the step rules, so that each of their sentences is pinned where it stands. Team 1 steps, in a run with cap 4.
-use mathlib.Core.Path.{_≡_}
-use mathlib.Core.Bool.{true, false}
-use mathlib.Core.List.{List, [], _∷_, map}
-use Prim.Native.Nat.{ℕ}
-use lib.IntN.{ℤ, pos, negsuc}
-use Rattle·rules.specs.declared.Ledger.{Ledger}
-use Rattle·rules.specs.declared.Answer.{Answer}
-use Rattle·rules.specs.States.{AVAILABLE, OWNED, COMPLETED, STOLEN, EXPANDED}
-use Rattle·rules.specs.Requests.{refused}
-use Rattle·rules.specs.Tests.{Test}
-use Rattle·steps·specs.specs.declared.Place.{Place}
-use Rattle·steps·specs.specs.declared.Place.the-variants.{Seek, Take, Work, Claim, Mark, Split, Stopped}
-use Rattle·steps·specs.specs.declared.Side.{Side}
-use Rattle·steps·specs.specs.declared.Side.the-variants.{Left, Right}
-use Rattle·steps·specs.specs.declared.Program.the-variants.{Scan, Greatest}
-use Rattle·steps·specs.specs.declared.Memory.{Memory}
-use Rattle·steps·specs.specs.declared.Memory.the-variants.{Nothing, Free, Held}
-use Rattle·steps·specs.specs.declared.Team.{Team}
-use Rattle·rules.specs.Asks.{own, advance, mark, expand, look}
-use Rattle·steps·specs.specs.Records.{programOf, makeTeam, freshTeam}
-use Rattle·steps·specs.specs.Places.{noRequest}
-use Rattle·steps·specs.specs.Step.{asking, unmoved, unfit, tooFew, lentTests, soloTests, stepUnless, lentStep, recordsAfter}
-use Rattle·steps·specs.specs.Turn.{asks, moves}
+use Rattle.std.specs.Prelude.{◌≡◌, true, false, List, [], ◌∷◌, map, ℕ, ℤ, pos, negsuc}
+use Rattle.rules.specs.declared.Ledger.{Ledger}
+use Rattle.rules.specs.declared.Answer.{Answer}
+use Rattle.rules.specs.States.{AVAILABLE, OWNED, COMPLETED, STOLEN, EXPANDED}
+use Rattle.rules.specs.Requests.{refused}
+use Rattle.rules.specs.Tests.{Test}
+use Rattle.steps.specs.declared.Place.{Place}
+use Rattle.steps.specs.declared.Place.TheVariants.{Seek, Take, Work, Claim, Mark, Split, Stopped}
+use Rattle.steps.specs.declared.Side.{Side}
+use Rattle.steps.specs.declared.Side.TheVariants.{Left, Right}
+use Rattle.steps.specs.declared.Program.TheVariants.{Scan, Greatest}
+use Rattle.steps.specs.declared.Memory.{Memory}
+use Rattle.steps.specs.declared.Memory.TheVariants.{Nothing, Free, Held}
+use Rattle.steps.specs.declared.Team.{Team}
+use Rattle.rules.specs.Asks.{own, advance, mark, expand, look}
+use Rattle.steps.specs.Records.{program_of, make_team, fresh_team}
+use Rattle.steps.specs.Places.{no_request}
+use Rattle.steps.specs.Step.{asking, unmoved, unfit, too_few, lent_tests, solo_tests, step_unless, lent_step, records_after}
+use Rattle.steps.specs.Turn.{asks, moves}
 
 -- of program 1, which remembers nothing
 abbrev team : Place → ℕ → ℤ → Side → ℕ → Team
-team p n at d k = makeTeam p n at d k Scan Nothing
+team p n at d k = make_team p n at d k Scan Nothing
 
 -- "Fresh is seek(1), position 0, side left, size 1", for either program, with nothing remembered
 abbrev pub RightFresh : Type 0
 RightFresh =
-    map freshTeam (Scan ∷ Greatest ∷ [])
-    ≡ makeTeam Seek 1 (pos 0) Left 1 Scan Nothing ∷ makeTeam Seek 1 (pos 0) Left 1 Greatest Nothing ∷ []
+    map fresh_team (Scan ∷ Greatest ∷ [])
+    ≡ make_team Seek 1 (pos 0) Left 1 Scan Nothing ∷ make_team Seek 1 (pos 0) Left 1 Greatest Nothing ∷ []
 
 -- ---- what a team asks
 
@@ -42,7 +38,7 @@ at p = team p 3 (pos 7) Left 2
 abbrev pub RightRequests : Type 0
 RightRequests =
     map (λ p. asks 1 (at p)) (Seek ∷ Take ∷ Work ∷ Claim ∷ Mark ∷ Split ∷ Stopped ∷ [])
-    ≡ look 1 3 ∷ own 1 3 ∷ look 1 3 ∷ advance 1 3 (pos 7) 2 ∷ mark 1 3 (pos 7) ∷ expand 1 3 ∷ noRequest ∷ []
+    ≡ look 1 3 ∷ own 1 3 ∷ look 1 3 ∷ advance 1 3 (pos 7) 2 ∷ mark 1 3 (pos 7) ∷ expand 1 3 ∷ no_request ∷ []
 
 -- ---- where the answer sends it
 
@@ -52,8 +48,8 @@ pub record Move : Type 0 where
   pub hears : Answer
   pub after : Team
 
-infix 5 _hears_then_
-abbrev _hears_then_ : Team → Answer → Team → Move
+infix 5 ◌hears◌then◌
+abbrev ◌hears◌then◌ : Team → Answer → Team → Move
 r hears a then s = record { before = r; hears = a; after = s }
 
 -- an answer tells of 9..20 and of the children 6 and 7
@@ -114,13 +110,13 @@ examples =
     ∷ []
 
 abbrev pub RightMoves : Type 0
-RightMoves = map (λ (m : Move). moves 1 4 (m .before) (m .hears)) examples ≡ map (λ (m : Move). m .after) examples
+RightMoves = map (λ (m : Move). moves 1 4 m.before m.hears) examples ≡ map (λ (m : Move). m.after) examples
 
 -- ---- the same by program 2
 
 -- a team at a node, which read position 7 before, with what it remembers
 abbrev greatest : Place → ℕ → ℤ → Side → ℕ → Memory → Team
-greatest p n at d k m = makeTeam p n at d k Greatest m
+greatest p n at d k m = make_team p n at d k Greatest m
 
 abbrev with : Place → ℕ → Memory → Team
 with p n m = greatest p n (pos 7) Left 2 m
@@ -164,11 +160,11 @@ searches =
     ∷ []
 
 abbrev pub RightSearches : Type 0
-RightSearches = map (λ (m : Move). moves 1 4 (m .before) (m .hears)) searches ≡ map (λ (m : Move). m .after) searches
+RightSearches = map (λ (m : Move). moves 1 4 m.before m.hears) searches ≡ map (λ (m : Move). m.after) searches
 
 -- 2 names it, and any other number is program 1
 abbrev pub RightPrograms : Type 0
-RightPrograms = map programOf (0 ∷ 1 ∷ 2 ∷ 3 ∷ []) ≡ Scan ∷ Scan ∷ Greatest ∷ Scan ∷ []
+RightPrograms = map program_of (0 ∷ 1 ∷ 2 ∷ 3 ∷ []) ≡ Scan ∷ Scan ∷ Greatest ∷ Scan ∷ []
 
 -- ---- what a step does
 
@@ -181,21 +177,21 @@ three = at Seek ∷ at Take ∷ at Work ∷ []
 abbrev pub RightSteps : Type 0
 RightSteps =
     (l : Ledger)
-    → (stepUnless 0 l (pos 1) (pos 4) (at Seek) ≡ asking l (look 1 3) (moves 1 4 (at Seek)))
-    × (stepUnless 0 l (pos 1) (pos 4) (at Stopped) ≡ unmoved 0 l (at Stopped))
-    × (stepUnless 19 l (pos 1) (pos 4) (at Seek) ≡ unmoved 19 l (at Seek))
-    × (recordsAfter l (pos 2) (pos 4) three ≡ at Seek ∷ lentStep l (pos 2) (pos 4) three .team ∷ at Work ∷ [])
+    → (step_unless 0 l (pos 1) (pos 4) (at Seek) ≡ asking l (look 1 3) (moves 1 4 (at Seek)))
+    × (step_unless 0 l (pos 1) (pos 4) (at Stopped) ≡ unmoved 0 l (at Stopped))
+    × (step_unless 19 l (pos 1) (pos 4) (at Seek) ≡ unmoved 19 l (at Seek))
+    × (records_after l (pos 2) (pos 4) three ≡ at Seek ∷ (lent_step l (pos 2) (pos 4) three).team ∷ at Work ∷ [])
 
 -- ---- when it is refused
 
 abbrev pub codes : List Test → List ℕ
-codes ts = map (λ (t : Test). t .code) ts
+codes ts = map (λ (t : Test). t.code) ts
 
 -- "A step is refused by 1, 3, 18, 19, tested in this order"; with one record by value there are none too few
 abbrev pub RightOrder : Type 0
 RightOrder =
     (l : Ledger) (number cap : ℤ) (rs : List Team) (r : Team)
-    → (codes (lentTests l number cap rs) ≡ 1 ∷ 3 ∷ 18 ∷ 19 ∷ []) × (codes (soloTests l number cap r) ≡ 1 ∷ 3 ∷ 19 ∷ [])
+    → (codes (lent_tests l number cap rs) ≡ 1 ∷ 3 ∷ 18 ∷ 19 ∷ []) × (codes (solo_tests l number cap r) ≡ 1 ∷ 3 ∷ 19 ∷ [])
 
 -- 19 at both ends of each limit: the cap's, the node's, and the size's, which is the cap; and 18 where a record is missing for the last of
 -- two teams
@@ -205,4 +201,4 @@ RightLimits =
     ≡ true ∷ true ∷ false ∷ false ∷ true ∷ [])
     × (map (λ n. unfit (pos 4) (to Seek n)) (0 ∷ 1 ∷ 1024 ∷ 1025 ∷ []) ≡ true ∷ false ∷ false ∷ true ∷ [])
     × (map (λ k. unfit (pos 4) (sized Seek k)) (0 ∷ 1 ∷ 4 ∷ 5 ∷ []) ≡ true ∷ false ∷ false ∷ true ∷ [])
-    × ((l : Ledger) → l .teams ≡ 2 → map (tooFew l) (1 ∷ 2 ∷ 3 ∷ []) ≡ true ∷ false ∷ false ∷ [])
+    × ((l : Ledger) → l.teams ≡ 2 → map (too_few l) (1 ∷ 2 ∷ 3 ∷ []) ≡ true ∷ false ∷ false ∷ [])

@@ -1,12 +1,7 @@
 // Each line of the step rules, place by place: the record before the step and the cap, what it asked and got, and the record after it.
-use crate::ledgers;
-use crate::show;
+use crate::{ledgers, show};
 use rules::Ledger;
-use steps::Memory;
-use steps::Place;
-use steps::Program;
-use steps::Side;
-use steps::Team;
+use steps::{Memory, Place, Program, Side, Team};
 
 // A record with a position of 2, side left and size 4, so that what a move keeps can be seen.
 fn at(place: Place, node: u32) -> Team {

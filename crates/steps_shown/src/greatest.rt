@@ -1,14 +1,9 @@
 // Program 2, line by line: what a search remembers, where it goes after the last node, and what a refusal makes it forget. A record may
 // remember anything at all.
 use crate::cases::tried;
-use crate::ledgers;
-use crate::show;
+use crate::{ledgers, show};
 use rules::Ledger;
-use steps::Memory;
-use steps::Place;
-use steps::Program;
-use steps::Side;
-use steps::Team;
+use steps::{Memory, Place, Program, Side, Team};
 
 fn with(place: Place, node: u32, memory: Memory) -> Team {
     Team {

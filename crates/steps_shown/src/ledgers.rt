@@ -1,7 +1,5 @@
 // Ledgers of two teams to step on. The root has 0..8; team 1 takes it, and team 2 steals from it.
-use rules::Ledger;
-use rules::Opening;
-use rules::Request;
+use rules::{Ledger, Opening, Request};
 
 pub(crate) fn opened(nodes: i32) -> Ledger {
     let o = ledger::open(Opening {

@@ -1,9 +1,7 @@
 // Shows teams at work: the document's schedule step by step, each line of the step rules by program 1 and by program 2, records at their
 // limits, and refused steps.
-use rules::Ledger;
-use rules::Opening;
-use steps::Program;
-use steps::Team;
+use rules::{Ledger, Opening};
+use steps::{Program, Team};
 
 mod cases;
 mod greatest;
@@ -11,6 +9,7 @@ mod ledgers;
 mod show;
 
 // The document's schedule: a step's request and answer, and both records after it. The last step is of no team, and is refused.
+#[derive(Drop)]
 struct Run {
     ledger: Ledger,
     records: [Team; 32],

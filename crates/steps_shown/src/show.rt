@@ -1,11 +1,7 @@
 // Prints records and steps: place, node, position, side and size of a record, and by program 2 what it remembers; kind and node of a step's request, and the six numbers of its answer.
 use libc::STDOUT_FILENO;
 use rules::Answer;
-use steps::Memory;
-use steps::Place;
-use steps::Program;
-use steps::Side;
-use steps::Team;
+use steps::{Memory, Place, Program, Side, Team};
 
 fn number(n: u32) {
     io::write_all(STDOUT_FILENO, b" ");
@@ -31,16 +27,14 @@ fn place(p: Place) {
         Place::Mark => io::write_all(STDOUT_FILENO, b" mark"),
         Place::Split => io::write_all(STDOUT_FILENO, b" split"),
         Place::Stopped => io::write_all(STDOUT_FILENO, b" stopped"),
-    }
-    ;
+    };
 }
 
 fn side(d: Side) {
     match d {
         Side::Left => io::write_all(STDOUT_FILENO, b" left"),
         Side::Right => io::write_all(STDOUT_FILENO, b" right"),
-    }
-    ;
+    };
 }
 
 pub(crate) fn record(t: Team) {

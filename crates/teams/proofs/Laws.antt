@@ -1,57 +1,57 @@
 -- What the code of a step needs of the definitions, over plain variables.
-use mathlib.Core.Path.{_≡_, refl, _∙_}
-use mathlib.Core.Logic.{_≢_}
-use mathlib.Core.Bool.{Bool, true, false, cond, not, _||_, true≢false}
+use mathlib.Core.Path.{◌≡◌, refl, ◌∙◌}
+use mathlib.Core.Logic.{◌≢◌}
+use mathlib.Core.Bool.{Bool, true, false, cond, not, ◌||◌, true≢false}
 use mathlib.Core.List.{List}
-use Prim.Native.Nat.{ℕ, _≤_, _<_}
+use Prim.Native.Nat.{ℕ, ◌≤◌, ◌<◌}
 use native.Mathlib.Omega.{arith}
-use native.Mathlib.Decide.{ℕ-discrete, decLe, decLt}
+use native.Mathlib.Decide.{ℕ_discrete, dec_le, dec_lt}
 use lib.Dec.{T, eqb}
 use lib.IntN.{ℤ, pos}
-use borrow.Author.Tests.{eqb-true, eq-eqb, ne-eqb, not-false}
-use Rattle·numbers.specs.Fields.{within, natOf}
-use Rattle·numbers.proofs.Laws.{within-true}
-use Rattle·rules.specs.declared.Ledger.{Ledger}
-use Rattle·rules.specs.declared.Request.{Request}
-use Rattle·rules.specs.declared.Answer.{Answer}
-use Rattle·rules.specs.declared.Answered.{Answered}
-use Rattle·rules.specs.declared.View.{View}
-use Rattle·rules.specs.declared.Outcome.{Outcome}
-use Rattle·rules.specs.declared.Change.{Change}
-use Rattle·rules.specs.declared.Change.the-variants.{Keep}
-use Rattle·rules.specs.Limits.{maxTeams, maxCap}
-use Rattle·rules.specs.Refusals.{allTests, ownTests, advanceTests, markTests, expandTests, reportTests, pushTests, foldTests, ownCode, advanceCode, markCode, expandCode, reportCode, pushCode, foldCode, kindCode, refusal}
-use Rattle·rules.specs.Requests.{refused, refusing, outcome, owning, advancing, marking, expanding, looking, reporting, pushing, folding, granted, decided, view, nodeIn, answered, requested}
-use Rattle·rules.specs.Nodes.{usedOf}
-use Rattle·rules.specs.Table.{InUse, at}
-use Rattle·rules.specs.Tests.{Test, first}
-use Rattle·rules.specs.WellFormed.{wellFormed, Sized}
-use Rattle·rules.proofs.Blank.{blank-used, used-most}
-use Rattle·rules.proofs.Granted.{each-granted}
-use Rattle·rules.proofs.Keeps.{requested-wf}
-use Rattle·rules.proofs.Record.{WF, rules, both-sound, used-high}
-use Rattle·rules.proofs.Spare.{spare}
-use Rattle·rules.proofs.Tests.{lacks, passed-to, passed, each-kind}
-use Rattle·steps.specs.declared.Team.{Team}
-use Rattle·steps.specs.declared.Stepped.{Stepped}
-use Rattle·steps.specs.Records.{maxNode, isStopped}
-use Rattle·steps.specs.Step.{unmoved, stepFrom, stepAt, unfit, laterTests, soloCode, stepUnless, soloStep}
-use Rattle·steps.specs.Turn.{asks, still, turned}
-use Rattle·places.specs.Clipped.{clippedAsks, clippedMoves, Limited}
-use Rattle·places.proofs.Laws.{unclipped-asks, unclipped-moves}
-use Rattle·teams·specs.specs.Clipped.{heard, withLedger, clippedTurn, clippedStep, Ready, UnclippedTurn}
+use borrow.Author.Tests.{eqb-true, eq-eqb, ne_eqb, not-false}
+use Rattle.numbers.specs.Fields.{within, nat_of}
+use Rattle.numbers.proofs.Laws.{within_true}
+use Rattle.rules.specs.declared.Ledger.{Ledger}
+use Rattle.rules.specs.declared.Request.{Request}
+use Rattle.rules.specs.declared.Answer.{Answer}
+use Rattle.rules.specs.declared.Answered.{Answered}
+use Rattle.rules.specs.declared.View.{View}
+use Rattle.rules.specs.declared.Outcome.{Outcome}
+use Rattle.rules.specs.declared.Change.{Change}
+use Rattle.rules.specs.declared.Change.TheVariants.{Keep}
+use Rattle.rules.specs.Limits.{max_teams, max_cap}
+use Rattle.rules.specs.Refusals.{all_tests, own_tests, advance_tests, mark_tests, expand_tests, report_tests, push_tests, fold_tests, own_code, advance_code, mark_code, expand_code, report_code, push_code, fold_code, kind_code, refusal}
+use Rattle.rules.specs.Requests.{refused, refusing, outcome, owning, advancing, marking, expanding, looking, reporting, pushing, folding, granted, decided, view, node_in, answered, requested}
+use Rattle.rules.specs.Nodes.{used_of}
+use Rattle.rules.specs.Table.{InUse, at}
+use Rattle.rules.specs.Tests.{Test, first}
+use Rattle.rules.specs.WellFormed.{well_formed, Sized}
+use Rattle.rules.proofs.Blank.{blank_used, used_most}
+use Rattle.rules.proofs.Granted.{each_granted}
+use Rattle.rules.proofs.Keeps.{requested_wf}
+use Rattle.rules.proofs.Record.{WF, rules, both_sound, used_high}
+use Rattle.rules.proofs.Spare.{spare}
+use Rattle.rules.proofs.Tests.{lacks, passed_to, passed, each_kind}
+use Rattle.steps.specs.declared.Team.{Team}
+use Rattle.steps.specs.declared.Stepped.{Stepped}
+use Rattle.steps.specs.Records.{max_node, is_stopped}
+use Rattle.steps.specs.Step.{unmoved, step_from, step_at, unfit, later_tests, solo_code, step_unless, solo_step}
+use Rattle.steps.specs.Turn.{asks, still, turned}
+use Rattle.places.specs.Clipped.{clipped_asks, clipped_moves, Limited}
+use Rattle.places.proofs.Laws.{unclipped_asks, unclipped_moves}
+use Rattle.teams.specs.Clipped.{heard, with_ledger, clipped_turn, clipped_step, Ready, UnclippedTurn}
 
 -- ---- the limits of what a team sees
 
 -- no answer tells of a left child past those in view
-pub left-small : (v : View) (q : Request) (k : ℕ) → v .node .left ≤ k → v .pair ≤ k → decided v q .answer .left ≤ k
+pub left_small : (v : View) (q : Request) (k : ℕ) → v.node.left ≤ k → v.pair ≤ k → (decided v q).answer.left ≤ k
 unfolding decided
-left-small v q k node pair = refused-or (eqb (refusal v q) 0)
+left_small v q k node pair = refused_or (eqb (refusal v q) 0)
   where
-    refused-or : (b : Bool) → cond b (granted v q) (outcome (refusing v (refusal v q)) Keep) .answer .left ≤ k
-    refused-or true =
-        unfold owning advancing marking expanding looking reporting pushing folding in (each-granted
-        (λ (o : Outcome). o .answer .left ≤ k)
+    refused_or : (b : Bool) → (cond b (granted v q) (outcome (refusing v (refusal v q)) Keep)).answer.left ≤ k
+    refused_or true =
+        unfold owning advancing marking expanding looking reporting pushing folding in (each_granted
+        (λ (o : Outcome). o.answer.left ≤ k)
         v
         q
         (omega arith)
@@ -62,89 +62,89 @@ left-small v q k node pair = refused-or (eqb (refusal v q) 0)
         (omega arith)
         (omega arith)
         node)
-    refused-or false = late (eqb (refusal v q) 16)
+    refused_or false = late (eqb (refusal v q) 16)
       where
-        late : (b : Bool) → cond b (v .node .left) 0 ≤ k
+        late : (b : Bool) → cond b v.node.left 0 ≤ k
         late true = node
         late false = omega arith
 
 module _ (l : Ledger) (w : WF l) where
   -- a slot that is not in use is all 0
-  child-small : (n : ℕ) → 1 ≤ n → at l n .left ≤ maxNode
-  child-small n low = go (decLe n (l .used)) (ℕ-discrete (usedOf (at l n)) 0) (decLt 0 (at l n .left))
+  child_small : (n : ℕ) → 1 ≤ n → (at l n).left ≤ max_node
+  child_small n low = go (dec_le n l.used) (ℕ_discrete (used_of (at l n)) 0) (dec_lt 0 (at l n).left)
     where
-      go : Dec (n ≤ l .used) → Dec (usedOf (at l n) ≡ 0) → Dec (0 < at l n .left) → at l n .left ≤ maxNode
-      go (no h) f d = rw (w .blank n (omega arith)) (omega arith)
-      go (yes h) (yes z) d = rw (blank-used (at l n) z) (omega arith)
+      go : Dec (n ≤ l.used) → Dec (used_of (at l n) ≡ 0) → Dec (0 < (at l n).left) → (at l n).left ≤ max_node
+      go (no h) f d = rw (w.blank n (omega arith)) (omega arith)
+      go (yes h) (yes z) d = rw (blank_used (at l n) z) (omega arith)
       go (yes h) (no s) (yes k) =
-          let u : InUse l n = record { low = low; high = h; some = omega (arith, used-most (at l n)) } in
-          omega (arith, w .node n u .pair k .inside, used-high l w)
+          let u : InUse l n = record { low = low; high = h; some = omega (arith, used_most (at l n)) } in
+          omega (arith, ((w.node n u).pair k).inside, used_high l w)
       go (yes h) (no s) (no k) = omega arith
 
-  any-child-small : (n : ℕ) → at l n .left ≤ maxNode
-  any-child-small n = go (decLe 1 n)
+  any_child_small : (n : ℕ) → (at l n).left ≤ max_node
+  any_child_small n = go (dec_le 1 n)
     where
       zeroth : at l 0 ≡ at l 1
       zeroth = unfold at in refl
 
-      go : Dec (1 ≤ n) → at l n .left ≤ maxNode
-      go (yes h) = child-small n h
-      go (no h) = let z : n ≡ 0 = omega arith in rw (z, zeroth) (child-small 1 (omega arith))
+      go : Dec (1 ≤ n) → (at l n).left ≤ max_node
+      go (yes h) = child_small n h
+      go (no h) = let z : n ≡ 0 = omega arith in rw (z, zeroth) (child_small 1 (omega arith))
 
   -- a well-formed ledger shows a team nothing past the limits
-  pub in-limits : (number : ℕ) (r : Team) (n : ℕ) → Limited number r → Ready number r (view l n)
+  pub in_limits : (number : ℕ) (r : Team) (n : ℕ) → Limited number r → Ready number r (view l n)
   unfolding view
-  in-limits number r n limited =
+  in_limits number r n limited =
       record {
         limited = limited;
-        left-high = any-child-small n;
-        pair-high = omega (arith, spare l w .next, used-high l w);
+        left_high = any_child_small n;
+        pair_high = omega (arith, (spare l w).next, used_high l w);
       }
 
-  pub answer-small : (q : Request) → requested l q .answer .left ≤ maxNode
+  pub answer_small : (q : Request) → (requested l q).answer.left ≤ max_node
   unfolding answered view
-  answer-small q =
+  answer_small q =
       rw
-      (requested-wf l q w)
-      (left-small (view l (nodeIn q)) q maxNode (any-child-small (nodeIn q)) (omega (arith, spare l w .next, used-high l w)))
+      (requested_wf l q w)
+      (left_small (view l (node_in q)) q max_node (any_child_small (node_in q)) (omega (arith, (spare l w).next, used_high l w)))
 
 -- ---- 1 is the code of no refusal but that of a ledger that is not well formed
 
-never-one : (v : View) (q : Request) → refusal v q ≢ 1
-unfolding refusal kindCode ownCode advanceCode markCode expandCode reportCode pushCode foldCode
-never-one v q e =
-    each-kind
+never_one : (v : View) (q : Request) → refusal v q ≢ 1
+unfolding refusal kind_code own_code advance_code mark_code expand_code report_code push_code fold_code
+never_one v q e =
+    each_kind
     (λ (c : ℕ). c ≢ 1)
-    (natOf (q .kind))
-    (ownCode (v .node))
-    (advanceCode (v .node) q)
-    (markCode v q)
-    (expandCode (v .node))
+    (nat_of q.kind)
+    (own_code v.node)
+    (advance_code v.node q)
+    (mark_code v q)
+    (expand_code v.node)
     0
-    (reportCode (v .node) q)
-    (pushCode v)
-    (foldCode v)
-    (nothing (ownTests (v .node)) tt)
-    (nothing (advanceTests (v .node) q) tt)
-    (nothing (markTests v q) tt)
-    (nothing (expandTests (v .node)) tt)
+    (report_code v.node q)
+    (push_code v)
+    (fold_code v)
+    (nothing (own_tests v.node) tt)
+    (nothing (advance_tests v.node q) tt)
+    (nothing (mark_tests v q) tt)
+    (nothing (expand_tests v.node) tt)
     (λ z. omega arith)
-    (nothing (reportTests (v .node) q) tt)
-    (nothing (pushTests v) tt)
-    (nothing (foldTests v) tt)
-    (passed-to 1 (allTests v q) (kindCode v q) tt e .1)
+    (nothing (report_tests v.node q) tt)
+    (nothing (push_tests v) tt)
+    (nothing (fold_tests v) tt)
+    (passed_to 1 (all_tests v q) (kind_code v q) tt e).1
   where
     nothing : (ts : List Test) → T (lacks 1 ts) → first ts 0 ≢ 1
-    nothing ts p e = let z = passed-to 1 ts 0 p e .1 in omega arith
+    nothing ts p e = let z = (passed_to 1 ts 0 p e).1 in omega arith
 
-not-one : (v : View) (q : Request) → decided v q .answer .code ≢ 1
+not_one : (v : View) (q : Request) → (decided v q).answer.code ≢ 1
 unfolding decided
-not-one v q = refused-or (eqb (refusal v q) 0)
+not_one v q = refused_or (eqb (refusal v q) 0)
   where
-    refused-or : (b : Bool) → cond b (granted v q) (outcome (refusing v (refusal v q)) Keep) .answer .code ≢ 1
-    refused-or true =
-        unfold owning advancing marking expanding looking reporting pushing folding in (each-granted
-        (λ (o : Outcome). o .answer .code ≢ 1)
+    refused_or : (b : Bool) → (cond b (granted v q) (outcome (refusing v (refusal v q)) Keep)).answer.code ≢ 1
+    refused_or true =
+        unfold owning advancing marking expanding looking reporting pushing folding in (each_granted
+        (λ (o : Outcome). o.answer.code ≢ 1)
         v
         q
         (omega arith)
@@ -155,48 +155,48 @@ not-one v q = refused-or (eqb (refusal v q) 0)
         (omega arith)
         (omega arith)
         (omega arith))
-    refused-or false = never-one v q
+    refused_or false = never_one v q
 
 -- ---- what was heard
 
-pub hear-made : (number cap : ℕ) (r : Team) (q : Request) (a : Answer) (c : Change) {m : Team} {kind node : ℕ}
-    → m ≡ clippedMoves number cap r a
-    → kind ≡ natOf (q .kind)
-    → node ≡ natOf (q .node)
+pub hear_made : (number cap : ℕ) (r : Team) (q : Request) (a : Answer) (c : Change) {m : Team} {kind node : ℕ}
+    → m ≡ clipped_moves number cap r a
+    → kind ≡ nat_of q.kind
+    → node ≡ nat_of q.node
     → record { team = m; kind = kind; node = node; answer = a; change = c } ≡ heard number cap r q a c
 unfolding heard
-hear-made number cap r q a c moved k n = rw (moved, k, n)
+hear_made number cap r q a c moved k n = rw (moved, k, n)
 
-pub ask-made : (number cap : ℕ) (l : Ledger) (r : Team) {q : Request} {d : Answered} {x : Stepped} (b : Bool)
-    → q ≡ clippedAsks number r
+pub ask_made : (number cap : ℕ) (l : Ledger) (r : Team) {q : Request} {d : Answered} {x : Stepped} (b : Bool)
+    → q ≡ clipped_asks number r
     → d ≡ requested l q
-    → eqb (d .answer .code) 1 ≡ b
-    → x ≡ cond b (unmoved 1 l r) (withLedger (d .ledger) (heard number cap r q (d .answer) Keep))
-    → x ≡ clippedStep number cap l r
-unfolding clippedStep
-ask-made number cap l r {q} {d} b asked done e is = is ∙ rw (← asked, ← done, e)
+    → eqb d.answer.code 1 ≡ b
+    → x ≡ cond b (unmoved 1 l r) (with_ledger d.ledger (heard number cap r q d.answer Keep))
+    → x ≡ clipped_step number cap l r
+unfolding clipped_step
+ask_made number cap l r {q} {d} b asked done e is = is ∙ rw (← asked, ← done, e)
 
 -- ---- a turn
 
 module _ (number cap : ℕ) (r : Team) (v : View) where
-  pub turn-rests : isStopped (r .place) ≡ true → still r ≡ clippedTurn number cap r v
-  unfolding clippedTurn
-  turn-rests e = rw e
+  pub turn_rests : is_stopped r.place ≡ true → still r ≡ clipped_turn number cap r v
+  unfolding clipped_turn
+  turn_rests e = rw e
 
-  pub turn-made : {q : Request} {o : Outcome}
-      → isStopped (r .place) ≡ false
-      → q ≡ clippedAsks number r
+  pub turn_made : {q : Request} {o : Outcome}
+      → is_stopped r.place ≡ false
+      → q ≡ clipped_asks number r
       → o ≡ decided v q
-      → heard number cap r q (o .answer) (o .change) ≡ clippedTurn number cap r v
-  unfolding clippedTurn
-  turn-made going asked done = rw (going, done, asked)
+      → heard number cap r q o.answer o.change ≡ clipped_turn number cap r v
+  unfolding clipped_turn
+  turn_made going asked done = rw (going, done, asked)
 
-pub unclipped-turn : UnclippedTurn
-unfolding clippedTurn turned heard
-unclipped-turn number cap r v ready =
+pub unclipped_turn : UnclippedTurn
+unfolding clipped_turn turned heard
+unclipped_turn number cap r v ready =
     let q = asks number r in
-    let small : decided v q .answer .left ≤ maxNode = left-small v q maxNode (ready .left-high) (ready .pair-high) in
-    rw (unclipped-asks number r (ready .limited), unclipped-moves number cap r (decided v q .answer) (ready .limited .node-high) small)
+    let small : (decided v q).answer.left ≤ max_node = left_small v q max_node ready.left_high ready.pair_high in
+    rw (unclipped_asks number r ready.limited, unclipped_moves number cap r (decided v q).answer ready.limited.node_high small)
 
 -- ---- the tests passed
 
@@ -204,71 +204,71 @@ neither : (a b : Bool) → (a || b) ≡ false → (a ≡ false) × (b ≡ false)
 neither true b e = absurd (true≢false e)
 neither false b e = (refl, e)
 
-fit-limits : (number : ℕ) (cap : ℤ) (r : Team) → number ≤ maxTeams → unfit cap r ≡ false → Limited number r
-fit-limits number cap r small e =
+fit_limits : (number : ℕ) (cap : ℤ) (r : Team) → number ≤ max_teams → unfit cap r ≡ false → Limited number r
+fit_limits number cap r small e =
     let a = neither _ _ e in
-    let b = neither _ _ (a .1) in
-    let c = within-true cap 1 maxCap (not-false (within cap 1 maxCap) (a .0)) in
-    let n = within-true (pos (r .node)) 1 maxNode (not-false (within (pos (r .node)) 1 maxNode) (b .0)) in
-    let s = within-true (pos (r .size)) 1 (natOf cap) (not-false (within (pos (r .size)) 1 (natOf cap)) (b .1)) in
-    record { number-high = small; node-high = n .high; size-high = omega (arith, s .high, c .high) }
+    let b = neither _ _ a.1 in
+    let c = within_true cap 1 max_cap (not-false (within cap 1 max_cap) a.0) in
+    let n = within_true (pos r.node) 1 max_node (not-false (within (pos r.node) 1 max_node) b.0) in
+    let s = within_true (pos r.size) 1 (nat_of cap) (not-false (within (pos r.size) 1 (nat_of cap)) b.1) in
+    record { number_high = small; node_high = n.high; size_high = omega (arith, s.high, c.high) }
 
 -- ---- a step
 
 -- by the test that its code makes
-pub rests-by : (k : ℕ) (stopped : Bool) → (not (eqb k 0) || stopped) ≡ true → k ≡ 0 → stopped ≡ true
-rests-by k stopped e z = rw (eq-eqb k 0 z) at e
+pub rests_by : (k : ℕ) (stopped : Bool) → (not (eqb k 0) || stopped) ≡ true → k ≡ 0 → stopped ≡ true
+rests_by k stopped e z = rw (eq-eqb k 0 z) at e
 
-pub goes-by : (k : ℕ) (stopped : Bool) → (not (eqb k 0) || stopped) ≡ false → (k ≡ 0) × (stopped ≡ false)
-goes-by k stopped e = let h = neither (not (eqb k 0)) stopped e in (eqb-true k 0 (not-false (eqb k 0) (h .0)), h .1)
+pub goes_by : (k : ℕ) (stopped : Bool) → (not (eqb k 0) || stopped) ≡ false → (k ≡ 0) × (stopped ≡ false)
+goes_by k stopped e = let h = neither (not (eqb k 0)) stopped e in (eqb-true k 0 (not-false (eqb k 0) h.0), h.1)
 
 module _ (l : Ledger) (number cap : ℤ) (r : Team) where
   abbrev t : ℕ
-  t = natOf number
+  t = nat_of number
 
   abbrev later : ℕ
-  later = first (laterTests (l .teams) number cap r) 0
+  later = first (later_tests l.teams number cap r) 0
 
   -- none is made where a test holds, or the team has stopped
-  pub step-rests : (later ≡ 0 → isStopped (r .place) ≡ true) → unmoved (cond (not (wellFormed l)) 1 later) l r ≡ soloStep l number cap r
-  unfolding soloStep soloCode stepUnless stepFrom
-  step-rests stopped = go (wellFormed l) (ℕ-discrete later 0)
+  pub step_rests : (later ≡ 0 → is_stopped r.place ≡ true) → unmoved (cond (not (well_formed l)) 1 later) l r ≡ solo_step l number cap r
+  unfolding solo_step solo_code step_unless step_from
+  step_rests stopped = go (well_formed l) (ℕ_discrete later 0)
     where
       v : Bool → ℕ → Stepped
-      v b c = cond (eqb (cond (not b) 1 c) 0) (stepAt t (natOf cap) l r) (unmoved (cond (not b) 1 c) l r)
+      v b c = cond (eqb (cond (not b) 1 c) 0) (step_at t (nat_of cap) l r) (unmoved (cond (not b) 1 c) l r)
 
       go : (b : Bool) → Dec (later ≡ 0) → unmoved (cond (not b) 1 later) l r ≡ v b later
       go false d = refl
       go true (yes e) = rw (e, stopped e)
-      go true (no ne) = rw (ne-eqb later 0 ne)
+      go true (no ne) = rw (ne_eqb later 0 ne)
 
   -- else the request is made; on a ledger that is not well formed its code is 1
-  module _ (sized : Sized l) (passes : later ≡ 0) (going : isStopped (r .place) ≡ false) where
+  module _ (sized : Sized l) (passes : later ≡ 0) (going : is_stopped r.place ≡ false) where
     abbrev q : Request
-    q = clippedAsks t r
+    q = clipped_asks t r
 
-    limits : wellFormed l ≡ true → Limited t r
+    limits : well_formed l ≡ true → Limited t r
     limits formed =
-        let p = passed (laterTests (l .teams) number cap r) 0 tt passes .0 in
-        let n = within-true number 1 (l .teams) (not-false (within number 1 (l .teams)) (p .0)) in
-        fit-limits t cap r (omega (arith, n .high, rules l (both-sound sized formed) .limits .teams-high)) (p .1 .0)
+        let p = (passed (later_tests l.teams number cap r) 0 tt passes).0 in
+        let n = within_true number 1 l.teams (not-false (within number 1 l.teams) p.0) in
+        fit_limits t cap r (omega (arith, n.high, (rules l (both_sound sized formed)).limits.teams_high)) p.1.0
 
-    pub step-made : clippedStep t (natOf cap) l r ≡ soloStep l number cap r
-    unfolding clippedStep soloStep soloCode stepUnless answered
-    step-made = go (wellFormed l) refl
+    pub step_made : clipped_step t (nat_of cap) l r ≡ solo_step l number cap r
+    unfolding clipped_step solo_step solo_code step_unless answered
+    step_made = go (well_formed l) refl
       where
-        unformed : wellFormed l ≡ false → requested l q ≡ record { ledger = l; answer = refused 1 }
+        unformed : well_formed l ≡ false → requested l q ≡ record { ledger = l; answer = refused 1 }
         unformed e = unfold requested in (rw e)
 
-        made : (limited : Limited t r) → requested l q .answer .left ≤ maxNode
-            → withLedger (requested l q .ledger) (heard t (natOf cap) r q (requested l q .answer) Keep) ≡ stepAt t (natOf cap) l r
+        made : (limited : Limited t r) → (requested l q).answer.left ≤ max_node
+            → with_ledger (requested l q).ledger (heard t (nat_of cap) r q (requested l q).answer Keep) ≡ step_at t (nat_of cap) l r
         made limited small =
-            unfold stepFrom heard in
-            (rw (going, unclipped-moves t (natOf cap) r (requested l q .answer) (limited .node-high) small, unclipped-asks t r limited))
+            unfold step_from heard in
+            (rw (going, unclipped_moves t (nat_of cap) r (requested l q).answer limited.node_high small, unclipped_asks t r limited))
 
-        go : (b : Bool) → wellFormed l ≡ b → clippedStep t (natOf cap) l r ≡ soloStep l number cap r
+        go : (b : Bool) → well_formed l ≡ b → clipped_step t (nat_of cap) l r ≡ solo_step l number cap r
         go false e = rw (unformed e, e)
         go true e =
-            let sound = both-sound sized e in
-            let one : requested l q .answer .code ≢ 1 = rw (requested-wf l q (rules l sound)) (not-one (view l (nodeIn q)) q) in
-            rw (e, passes, ne-eqb _ 1 one) (made (limits e) (answer-small l (rules l sound) q))
+            let sound = both_sound sized e in
+            let one : (requested l q).answer.code ≢ 1 = rw (requested_wf l q (rules l sound)) (not_one (view l (node_in q)) q) in
+            rw (e, passes, ne_eqb _ 1 one) (made (limits e) (answer_small l (rules l sound) q))

@@ -1,22 +1,16 @@
 // One team's step, with its record by value: exactly as the definitions of `steps` say.
-ghost use mathlib.Core.Path.{_≡_};
-ghost use Rattle·rules.specs.Tests.{first};
-ghost use Rattle·steps.specs.Step.{unfit, laterTests, unmoved, soloStep};
-ghost use Rattle·steps.specs.Turn.{still};
-ghost use Rattle·teams·specs.specs.Clipped.{heard, clippedTurn, clippedStep};
-use rules::Answer;
-use rules::Change;
-use rules::Ledger;
-use rules::Opening;
-use rules::Request;
-use rules::View;
-use steps::Stepped;
-use steps::Team;
-use steps::Turned;
+ghost use Rattle.std.specs.Prelude.{◌≡◌};
+ghost use Rattle.rules.specs.Tests.{first};
+ghost use Rattle.steps.specs.Step.{unfit, later_tests, unmoved, solo_step};
+ghost use Rattle.steps.specs.Turn.{still};
+ghost use Rattle.teams.specs.Clipped.{heard, clipped_turn, clipped_step};
+
+use rules::{Answer, Change, Ledger, Opening, Request, View};
+use steps::{Stepped, Team, Turned};
 
 // 19: what is wrong with a cap or a record.
 fn is_unfit(cap: i32, t: Team) -> bool
-    ensures { λ b. ⌜ b ≡ unfit cap t ⌝ }
+    ensures { result ≡ unfit cap t }
 {
     let most = numbers::natural(cap);
     let capped = numbers::in_range(cap, 1, Opening::CAP);
@@ -27,14 +21,14 @@ fn is_unfit(cap: i32, t: Team) -> bool
 
 // 3 and 19: the tests that need no look at the table.
 fn later_code(teams: u32, number: i32, cap: i32, t: Team) -> u32
-    ensures { λ c. ⌜ c ≡ first (laterTests teams number cap t) 0 ⌝ }
+    ensures { result ≡ first (later_tests teams number cap t) 0 }
 {
     let c19 = numbers::pick(is_unfit(cap, t), 19, 0);
     numbers::pick(!numbers::in_range(number, 1, teams), 3, c19)
 }
 
 fn unmoved_by(code: u32, l: Ledger, t: Team) -> Stepped
-    ensures { λ r. ⌜ r ≡ unmoved code l t ⌝ }
+    ensures { result ≡ unmoved code l t }
 {
     let answer = requests::refused_by(code);
     Stepped {
@@ -48,7 +42,7 @@ fn unmoved_by(code: u32, l: Ledger, t: Team) -> Stepped
 
 // The record after the answer, with what was asked.
 fn hear(number: u32, cap: u32, t: Team, q: Request, a: Answer, c: Change) -> Turned
-    ensures { λ r. ⌜ r ≡ heard number cap t q a c ⌝ }
+    ensures { result ≡ heard number cap t q a c }
 {
     let team = places::moves_of(number, cap, t, a);
     let kind = numbers::natural(q.kind);
@@ -64,7 +58,7 @@ fn hear(number: u32, cap: u32, t: Team, q: Request, a: Answer, c: Change) -> Tur
 
 // A step that makes its request, which tests the ledger: 1 is the code of no other refusal.
 fn ask(number: u32, cap: u32, l: Ledger, t: Team) -> Stepped
-    ensures { λ r. ⌜ r ≡ clippedStep number cap l t ⌝ }
+    ensures { result ≡ clipped_step number cap l t }
 {
     let q = places::asks_of(number, t);
     let done = ledger::request(l, q);
@@ -88,7 +82,7 @@ fn ask(number: u32, cap: u32, l: Ledger, t: Team) -> Stepped
 // A step of the team with this number and this record, in a run with this cap. It is refused by 1, 3 and 19, in this order; with one
 // record by value none can be too few. The ledger is tested once: by the request, or here where none is made.
 pub fn step(l: Ledger, number: i32, cap: i32, team: Team) -> Stepped
-    ensures { λ r. ⌜ r ≡ soloStep l number cap team ⌝ }
+    ensures { result ≡ solo_step l number cap team }
 {
     let later = later_code(l.teams, number, cap, team);
     let place = team.place;
@@ -103,7 +97,7 @@ pub fn step(l: Ledger, number: i32, cap: i32, team: Team) -> Stepped
 }
 
 fn still_turn(t: Team) -> Turned
-    ensures { λ r. ⌜ r ≡ still t ⌝ }
+    ensures { result ≡ still t }
 {
     let answer = requests::refused_by(0);
     Turned {
@@ -118,7 +112,7 @@ fn still_turn(t: Team) -> Turned
 // The step without its ledger, by the one node that its request names: for a run that holds the ledger itself, and knows that it is well
 // formed and the record within its limits.
 pub fn turn(number: u32, cap: u32, t: Team, v: View) -> Turned
-    ensures { λ r. ⌜ r ≡ clippedTurn number cap t v ⌝ }
+    ensures { result ≡ clipped_turn number cap t v }
 {
     let place = t.place;
     if places::has_stopped(place) {

@@ -1,27 +1,23 @@
 // The text that drives a run: its judgement, its header and its schedule. The text is read once: what the schedule says is kept aside until
 // the whole text is judged, for a refused text leaves the caller's area as it was.
-ghost use mathlib.Core.Path.{_≡_};
-ghost use mathlib.Core.Bool.{not, cond};
-ghost use Prim.Native.Nat.{_≤_, _<_};
-ghost use mathlib.Core.List.{_++_};
-ghost use lib.ListN.{length, set, take, drop};
-ghost use Rattle·text_rules.specs.Judgement.{maxBytes, isHeader, ruled, isGranted, given, openingOf, programIn, programGood, isTeam};
-ghost use Rattle·text_rules.specs.Answers.{noOpening, headerOf, RestItself, scheduleOf, areaOf};
-ghost use Rattle·text_rules.specs.Demands.{scheduleRoom};
-ghost use Rattle·text·specs.specs.Passes.{FoundHead, FoundRow, earlierOf, SurveyAsked, FoundSurvey, refusedHeading, headingBy, FoundHeading};
+ghost use Rattle.std.specs.Prelude.{◌≡◌, not, cond, ◌≤◌, ◌<◌, ◌++◌, length, set, take, drop};
+ghost use Rattle.text_rules.specs.Judgement.{max_bytes, is_header, ruled, is_granted, given, opening_of, program_in, program_good, is_team};
+ghost use Rattle.text_rules.specs.Answers.{no_opening, header_of, RestItself, schedule_of, area_of};
+ghost use Rattle.text_rules.specs.Demands.{schedule_room};
+ghost use Rattle.text.specs.Passes.{FoundHead, FoundRow, earlier_of, SurveyAsked, FoundSurvey, refused_heading, heading_by, FoundHeading};
+
 use rules::Opening;
-use text_rules::Header;
-use text_rules::Schedule;
-use text_rules::Token;
-use text_rules::Verdict;
+use text_rules::{Header, Schedule, Token, Verdict};
 
 // The line of the first number, or of a wrong byte before it, 0 where there is neither, and its place.
+#[derive(Drop)]
 struct Head {
     line: u32,
     place: usize,
 }
 
 // A line's numbers up to its end, or up to a byte with 22 or 23: how many, the first of them, that code or 0, and the place after it all.
+#[derive(Drop)]
 struct Row {
     count: usize,
     first: [u32; Header::MOST],
@@ -30,18 +26,21 @@ struct Row {
 }
 
 // The numbers of the schedule: the line of the first that is no team's, 0 where there is none, and how many there are.
+#[derive(Drop)]
 struct Tally {
     stranger: u32,
     count: usize,
 }
 
 // What comes after the header: its earliest byte with 22 or 23, and the numbers before that.
+#[derive(Drop)]
 struct Survey {
     fault: Verdict,
     tally: Tally,
 }
 
 // The header's answer, with the schedule's numbers and the place where they begin: none and the text's end where the header is refused.
+#[derive(Drop)]
 struct Heading {
     verdict: Verdict,
     opening: Opening,
@@ -54,8 +53,8 @@ struct Heading {
 
 // The first number, or a wrong byte before it: that is left for the next pass to meet.
 fn find_head(text: &[u8]) -> Head
-    requires { ⌜ length (now text) ≤ maxBytes ⌝ }
-    ensures { λ r. ⌜ FoundHead (now (text .entry)) r ⌝ }
+    requires { length text.now ≤ max_bytes }
+    ensures { FoundHead text.now result }
 {
     let mut i = 0;
     let mut line = 1;
@@ -77,7 +76,7 @@ fn find_head(text: &[u8]) -> Head
 
 // The first numbers with one more, where it is among them.
 fn noted(first: [u32; Header::MOST], count: usize, value: u32) -> [u32; Header::MOST]
-    ensures { λ r. ⌜ r ≡ set first count value ⌝ }
+    ensures { result ≡ set first count value }
 {
     let mut new = first;
     if count < Header::MOST {
@@ -88,8 +87,8 @@ fn noted(first: [u32; Header::MOST], count: usize, value: u32) -> [u32; Header::
 
 // The numbers from a place up to the line's end, or up to a byte with 22 or 23.
 fn read_row(text: &[u8], from: usize) -> Row
-    requires { ⌜ from ≤ length (now text) ⌝ }
-    ensures { λ r. ⌜ FoundRow (now (text .entry)) from r ⌝ }
+    requires { from ≤ length text.now }
+    ensures { FoundRow text.now from result }
 {
     let mut i = from;
     let mut count = 0;
@@ -128,7 +127,7 @@ fn read_row(text: &[u8], from: usize) -> Row
 
 // The line of the first number that is no team's, with one number more, which stands on the given line.
 fn stranger_after(stranger: u32, value: u32, line: u32, teams: u32) -> u32
-    ensures { λ r. ⌜ r ≡ earlierOf stranger (cond (isTeam teams value) 0 line) ⌝ }
+    ensures { result ≡ earlier_of stranger (cond (is_team teams value) 0 line) }
 {
     if stranger == 0 {
         numbers::pick((1 <= value) & (value <= teams), 0, line)
@@ -140,8 +139,8 @@ fn stranger_after(stranger: u32, value: u32, line: u32, teams: u32) -> u32
 // The schedule's numbers from a place on, which stands on the given line, up to a byte with 22 or 23. They are kept at the front of the
 // area.
 fn read_numbers(text: &[u8], from: usize, on: u32, teams: u32, kept: &mut [i32]) -> Survey
-    requires { ⌜ SurveyAsked (now text) from on (length (now kept)) ⌝ }
-    ensures { λ r. ⌜ FoundSurvey (now (text .entry)) from on teams (now (kept .entry)) r (now (kept .exit)) ⌝ }
+    requires { SurveyAsked text.now from on (length kept.old) }
+    ensures { FoundSurvey text.now from on teams kept.old result kept.new }
 {
     let mut i = from;
     let mut line = on;
@@ -175,15 +174,15 @@ fn read_numbers(text: &[u8], from: usize, on: u32, teams: u32, kept: &mut [i32])
 
 // Room for all numbers of a schedule. Only its length is known to a caller, which is all that lending it needs.
 fn no_numbers() -> [i32; Schedule::ROOM]
-    ensures { λ r. ⌜ scheduleRoom ≡ length r ⌝ }
+    ensures { schedule_room ≡ length result }
 {
     [0; Schedule::ROOM]
 }
 
 // The first of the kept numbers, so many, into the front of the area.
 fn fill(kept: &[i32], count: usize, area: &mut [i32])
-    requires { ⌜ (count ≤ length (now kept)) × (count ≤ length (now area)) ⌝ }
-    ensures { λ r. ⌜ now (area .exit) ≡ take count (now (kept .entry)) ++ drop count (now (area .entry)) ⌝ }
+    requires { (count ≤ length kept.now) × (count ≤ length area.old) }
+    ensures { area.new ≡ take count kept.now ++ drop count area.old }
 {
     let mut i = 0;
     while i < count {
@@ -196,20 +195,20 @@ fn fill(kept: &[i32], count: usize, area: &mut [i32])
 
 // The refusal where the test holds, and else what the later tests give.
 fn ruled_by(holds: bool, code: u32, line: u32, later: Verdict) -> Verdict
-    ensures { λ r. ⌜ r ≡ given holds (ruled code line) later ⌝ }
+    ensures { result ≡ given holds (ruled code line) later }
 {
     if holds { Verdict { code, line } } else { later }
 }
 
 // The first verdict where it is a refusal, and else the later.
 fn refused_or(first: Verdict, later: Verdict) -> Verdict
-    ensures { λ r. ⌜ r ≡ given (not (isGranted first)) first later ⌝ }
+    ensures { result ≡ given (not (is_granted first)) first later }
 {
     if first.code == 0 { later } else { first }
 }
 
 fn opening_of(row: Row) -> Opening
-    ensures { λ r. ⌜ r ≡ openingOf (row .first) ⌝ }
+    ensures { result ≡ opening_of row.first }
 {
     Opening {
         start: numbers::to_signed(row.first[0]),
@@ -222,20 +221,20 @@ fn opening_of(row: Row) -> Opening
 
 // The number that names the program, 0 where there is none.
 fn program_of(row: Row) -> u32
-    ensures { λ r. ⌜ r ≡ programIn (row .first) ⌝ }
+    ensures { result ≡ program_in row.first }
 {
     row.first[Header::LEAST]
 }
 
 // Whether a header of so many numbers may have this program.
 fn program_good(count: usize, program: u32) -> bool
-    ensures { λ r. ⌜ r ≡ programGood count program ⌝ }
+    ensures { result ≡ program_good count program }
 {
     (count <= Header::LEAST) | ((1 <= program) & (program <= Header::PROGRAMS))
 }
 
 fn no_opening() -> Opening
-    ensures { λ r. ⌜ r ≡ noOpening ⌝ }
+    ensures { result ≡ no_opening }
 {
     Opening {
         start: 0,
@@ -247,7 +246,7 @@ fn no_opening() -> Opening
 }
 
 fn refused(verdict: Verdict, end: usize) -> Heading
-    ensures { λ r. ⌜ r ≡ refusedHeading verdict end ⌝ }
+    ensures { result ≡ refused_heading verdict end }
 {
     let opening = no_opening();
     Heading {
@@ -264,7 +263,7 @@ fn refused(verdict: Verdict, end: usize) -> Heading
 
 // What was found, where its verdict grants it.
 fn if_granted(found: Heading, end: usize) -> Heading
-    ensures { λ r. ⌜ r ≡ headingBy found end ⌝ }
+    ensures { result ≡ heading_by found end }
 {
     let verdict = found.verdict;
     if verdict.code == 0 {
@@ -276,15 +275,15 @@ fn if_granted(found: Heading, end: usize) -> Heading
 
 // Whether a header may have so many numbers.
 fn is_header(count: usize) -> bool
-    ensures { λ r. ⌜ r ≡ isHeader count ⌝ }
+    ensures { result ≡ is_header count }
 {
     (Header::LEAST <= count) & (count <= Header::MOST)
 }
 
 // The header's tests over the whole text, last test first, and the header where it is granted. The schedule's numbers are kept.
 fn judge_header(text: &[u8], kept: &mut [i32]) -> Heading
-    requires { ⌜ scheduleRoom ≡ length (now kept) ⌝ }
-    ensures { λ r. ⌜ FoundHeading (now (text .entry)) (now (kept .entry)) r (now (kept .exit)) ⌝ }
+    requires { schedule_room ≡ length kept.old }
+    ensures { FoundHeading text.now kept.old result kept.new }
 {
     let n = text.len();
     if n > Header::BYTES {
@@ -321,7 +320,7 @@ fn judge_header(text: &[u8], kept: &mut [i32]) -> Heading
 // ---- The readers.
 
 pub fn read_header(text: &[u8]) -> Header
-    ensures { λ r. ⌜ r ≡ headerOf (now (text .entry)) ⌝ }
+    ensures { result ≡ header_of text.now }
 {
     let mut kept = no_numbers();
     let h = judge_header(text, &mut kept);
@@ -336,7 +335,7 @@ pub fn read_header(text: &[u8]) -> Header
 
 // The rest of the caller's text itself, from the byte after the header's line end.
 pub fn rest(text: &[u8]) -> &[u8]
-    ensures { λ r. ⌜ RestItself (text .entry) r ⌝ }
+    ensures { RestItself text.entry result }
 {
     let mut kept = no_numbers();
     let h = judge_header(text, &mut kept);
@@ -345,7 +344,7 @@ pub fn rest(text: &[u8]) -> &[u8]
 }
 
 pub fn read_schedule(text: &[u8], area: &mut [i32]) -> Schedule
-    ensures { λ r. ⌜ (r ≡ scheduleOf (length (now (area .entry))) (now (text .entry))) × (now (area .exit) ≡ areaOf (now (text .entry)) (now (area .entry))) ⌝ }
+    ensures { (result ≡ schedule_of (length area.old) text.now) × (area.new ≡ area_of text.now area.old) }
 {
     let mut kept = no_numbers();
     let h = judge_header(text, &mut kept);

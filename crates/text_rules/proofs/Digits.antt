@@ -1,27 +1,27 @@
 -- Laws of what a run of digits is read as.
-use mathlib.Core.Path.{_≡_, refl}
-use mathlib.Core.Bool.{Bool, true, false, cond, _||_, true≢false}
+use mathlib.Core.Path.{◌≡◌, refl}
+use mathlib.Core.Bool.{Bool, true, false, cond, ◌||◌, true≢false}
 use mathlib.Core.List.{List}
-use Prim.Native.Nat.{ℕ, _≤_}
+use Prim.Native.Nat.{ℕ, ◌≤◌}
 use native.Mathlib.Omega.{arith}
 use lib.Dec.{ltb}
 use lib.ListN.{length}
 use borrow.Author.Tests.{lt-ltb, le-ltb, ltb-false}
-use Rattle·text_rules·specs.specs.Digits.{maxDigits, maxNumber, refusedNumber, value, tooLarge, numberOf}
+use Rattle.text_rules.specs.Digits.{max_digits, max_number, refused_number, value, too_large, number_of}
 
 -- 23 tells a number from its value alone
-large-number : (t : Bool) (v : ℕ) → (t ≡ false → v ≤ maxNumber) → ltb maxNumber (cond t refusedNumber v) ≡ t
-large-number true v h = lt-ltb maxNumber refusedNumber (omega arith)
-large-number false v h = le-ltb maxNumber v (h refl)
+large_number : (t : Bool) (v : ℕ) → (t ≡ false → v ≤ max_number) → ltb max_number (cond t refused_number v) ≡ t
+large_number true v h = lt-ltb max_number refused_number (omega arith)
+large_number false v h = le-ltb max_number v (h refl)
 
-not-large : (b : Bool) (v : ℕ) → (b || ltb maxNumber v) ≡ false → v ≤ maxNumber
-not-large true v e = absurd (true≢false e)
-not-large false v e = ltb-false maxNumber v e
+not_large : (b : Bool) (v : ℕ) → (b || ltb max_number v) ≡ false → v ≤ max_number
+not_large true v e = absurd (true≢false e)
+not_large false v e = ltb-false max_number v e
 
-pub number-large : (ds : List ℕ) → ltb maxNumber (numberOf ds) ≡ tooLarge ds
-unfolding tooLarge numberOf
-number-large ds = large-number (tooLarge ds) (value ds) (not-large (ltb maxDigits (length ds)) (value ds))
+pub number_large : (ds : List ℕ) → ltb max_number (number_of ds) ≡ too_large ds
+unfolding too_large number_of
+number_large ds = large_number (too_large ds) (value ds) (not_large (ltb max_digits (length ds)) (value ds))
 
-pub small-value : (ds : List ℕ) → tooLarge ds ≡ false → value ds ≤ maxNumber
-unfolding tooLarge
-small-value ds e = not-large (ltb maxDigits (length ds)) (value ds) e
+pub small_value : (ds : List ℕ) → too_large ds ≡ false → value ds ≤ max_number
+unfolding too_large
+small_value ds e = not_large (ltb max_digits (length ds)) (value ds) e

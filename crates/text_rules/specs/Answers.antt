@@ -1,72 +1,67 @@
 -- "Each answers code and LINE (both 0 when granted), the header's numbers and, for the schedule, the count of its numbers; refused, these
 -- numbers are 0 and the area stays."
-use mathlib.Core.Path.{_≡_}
-use Prim.Native.Nat.{ℕ, _+_, _-_}
-use mathlib.Core.Bool.{cond}
-use mathlib.Core.List.{List, _++_, map}
-use lib.IntN.{ℤ, pos}
-use lib.ListN.{length, drop}
-use denote.Ref.{RefT, now}
-use Rattle·numbers.specs.Progress.{signed}
-use Rattle·rules.specs.declared.Opening.{Opening}
-use Rattle·text_rules·specs.specs.declared.Verdict.{Verdict}
-use Rattle·text_rules·specs.specs.declared.Header.{Header}
-use Rattle·text_rules·specs.specs.declared.Schedule.{Schedule}
-use Rattle·text_rules·specs.specs.Marks.{Mark, marks}
-use Rattle·text_rules·specs.specs.Lines.{fromHead, leftAfter}
-use Rattle·text_rules·specs.specs.Judgement.{isGranted, headOf, openingOf, programIn, headerVerdict, scheduleNumbers, scheduleVerdict}
+use Rattle.std.specs.Prelude.{◌≡◌, ℕ, ◌+◌, ◌-◌, cond, List, ◌++◌, map, ℤ, pos, length, drop}
+use Rattle.std.specs.Borrow.{Bor}
+use Rattle.numbers.specs.Progress.{signed}
+use Rattle.rules.specs.declared.Opening.{Opening}
+use Rattle.text_rules.specs.declared.Verdict.{Verdict}
+use Rattle.text_rules.specs.declared.Header.{Header}
+use Rattle.text_rules.specs.declared.Schedule.{Schedule}
+use Rattle.text_rules.specs.Marks.{Mark, marks}
+use Rattle.text_rules.specs.Lines.{from_head, left_after}
+use Rattle.text_rules.specs.Judgement.{is_granted, head_of, opening_of, program_in, header_verdict, schedule_numbers, schedule_verdict}
 
-abbrev pub noOpening : Opening
-noOpening = record { start = pos 0; until = pos 0; teams = pos 0; cap = pos 0; nodes = pos 0 }
+abbrev pub no_opening : Opening
+no_opening = record { start = pos 0; until = pos 0; teams = pos 0; cap = pos 0; nodes = pos 0 }
 
 -- the numbers of the header, where the text was granted
-abbrev pub opensAs : Verdict → List Mark → Opening
-opensAs v ms = cond (isGranted v) (openingOf (headOf ms)) noOpening
+abbrev pub opens_as : Verdict → List Mark → Opening
+opens_as v ms = cond (is_granted v) (opening_of (head_of ms)) no_opening
 
 -- the program that the header names, where the text was granted; 0 is "not given"
-abbrev pub runsAs : Verdict → List Mark → ℕ
-runsAs v ms = cond (isGranted v) (programIn (headOf ms)) 0
+abbrev pub runs_as : Verdict → List Mark → ℕ
+runs_as v ms = cond (is_granted v) (program_in (head_of ms)) 0
 
 -- the answer that a verdict gives, for a text with these marks
-abbrev pub headerBy : Verdict → List Mark → Header
-headerBy v ms = record { code = v .code; line = v .line; opening = opensAs v ms; program = runsAs v ms }
+abbrev pub header_by : Verdict → List Mark → Header
+header_by v ms = record { code = v.code; line = v.line; opening = opens_as v ms; program = runs_as v ms }
 
-unfoldable pub headerOf : List ℕ → Header
-headerOf text = headerBy (headerVerdict (length text) (marks text)) (marks text)
+unfoldable pub header_of : List ℕ → Header
+header_of text = header_by (header_verdict (length text) (marks text)) (marks text)
 
 -- "Reading the header gives back the rest of the caller's text itself, from the byte after the header's line end; an empty part if there is
 -- none or the text is refused."
-unfoldable pub restPlace : List ℕ → ℕ
-restPlace text =
-    cond (isGranted (headerVerdict (length text) (marks text))) (length text - leftAfter (fromHead (marks text))) (length text)
+unfoldable pub rest_place : List ℕ → ℕ
+rest_place text =
+    cond (is_granted (header_verdict (length text) (marks text))) (length text - left_after (from_head (marks text))) (length text)
 
-unfoldable pub restOf : List ℕ → List ℕ
-restOf text = drop (restPlace text) text
+unfoldable pub rest_of : List ℕ → List ℕ
+rest_of text = drop (rest_place text) text
 
 -- r is the rest of the text itself: it stands in the text's own memory, at that place
-pub record RestItself (text r : RefT (List ℕ)) : Type 0 where
-  pub block : r .ptr .0 ≡ text .ptr .0
-  pub offset : r .ptr .1 ≡ restPlace (now text) + text .ptr .1
-  pub bytes : now r ≡ restOf (now text)
+pub record RestItself (text r : Bor (List ℕ)) : Type 0 where
+  pub block : r.ref_ptr.0 ≡ text.ref_ptr.0
+  pub offset : r.ref_ptr.1 ≡ rest_place text.now + text.ref_ptr.1
+  pub bytes : r.now ≡ rest_of text.now
 
-abbrev pub scheduleBy : Verdict → List Mark → Schedule
-scheduleBy v ms =
+abbrev pub schedule_by : Verdict → List Mark → Schedule
+schedule_by v ms =
     record {
-      code = v .code;
-      line = v .line;
-      opening = opensAs v ms;
-      program = runsAs v ms;
-      count = cond (isGranted v) (length (scheduleNumbers ms)) 0;
+      code = v.code;
+      line = v.line;
+      opening = opens_as v ms;
+      program = runs_as v ms;
+      count = cond (is_granted v) (length (schedule_numbers ms)) 0;
     }
 
-unfoldable pub scheduleOf : ℕ → List ℕ → Schedule
-scheduleOf room text = scheduleBy (scheduleVerdict room (length text) (marks text)) (marks text)
+unfoldable pub schedule_of : ℕ → List ℕ → Schedule
+schedule_of room text = schedule_by (schedule_verdict room (length text) (marks text)) (marks text)
 
 -- the area with the numbers at its front
 abbrev pub filled : List ℕ → List ℤ → List ℤ
 filled ns area = map signed ns ++ drop (length ns) area
 
 -- the area after the schedule was read
-unfoldable pub areaOf : List ℕ → List ℤ → List ℤ
-areaOf text area =
-    cond (isGranted (scheduleVerdict (length area) (length text) (marks text))) (filled (scheduleNumbers (marks text)) area) area
+unfoldable pub area_of : List ℕ → List ℤ → List ℤ
+area_of text area =
+    cond (is_granted (schedule_verdict (length area) (length text) (marks text))) (filled (schedule_numbers (marks text)) area) area

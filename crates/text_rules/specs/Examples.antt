@@ -1,16 +1,12 @@
 -- Worked examples, for what no theorem says of every text: the order of the tests, LINE, the limits, and what a granted text is read as.
-use mathlib.Core.Path.{_≡_}
-use mathlib.Core.List.{List, [], _∷_, map}
-use Prim.Native.Nat.{ℕ}
+use Rattle.std.specs.Prelude.{◌≡◌, List, [], ◌∷◌, map, ℕ, ℤ, pos, length}
 use Prim.Native.Char.{code}
-use Prim.Native.String.{String, [] as none, _∷_ as _and_}
-use lib.IntN.{ℤ, pos}
-use lib.ListN.{length}
-use Rattle·rules.specs.declared.Opening.{Opening}
-use Rattle·text_rules·specs.specs.declared.Verdict.{Verdict}
-use Rattle·text_rules·specs.specs.Marks.{marks}
-use Rattle·text_rules·specs.specs.Judgement.{ruled, granted, headerVerdict, scheduleVerdict}
-use Rattle·text_rules·specs.specs.Answers.{headerOf, restPlace, scheduleOf, areaOf}
+use Prim.Native.String.{String, [] as none, ◌∷◌ as ◌and◌}
+use Rattle.rules.specs.declared.Opening.{Opening}
+use Rattle.text_rules.specs.declared.Verdict.{Verdict}
+use Rattle.text_rules.specs.Marks.{marks}
+use Rattle.text_rules.specs.Judgement.{ruled, granted, header_verdict, schedule_verdict}
+use Rattle.text_rules.specs.Answers.{header_of, rest_place, schedule_of, area_of}
 
 -- the bytes of a text in ASCII
 unfoldable pub bytes : String → List ℕ
@@ -41,8 +37,8 @@ abbrev pub refuses : String → ℕ → ℕ → Judged
 refuses text code line = judged text (length (bytes text)) (ruled code line) (ruled code line)
 
 -- refused by a test of the schedule
-abbrev pub refusesLater : String → ℕ → ℕ → Judged
-refusesLater text code line = judged text (length (bytes text)) granted (ruled code line)
+abbrev pub refuses_later : String → ℕ → ℕ → Judged
+refuses_later text code line = judged text (length (bytes text)) granted (ruled code line)
 
 abbrev pub judgements : List Judged
 judgements =
@@ -63,11 +59,11 @@ judgements =
     ∷ refuses "\n0 5 2 4 7 0\n3" 20 2
     ∷ refuses "0 5 2 4 7 3" 20 1
     ∷ refuses "0 5 2 4 7 2147483647" 20 1
-    ∷ refusesLater "0 5 2 4 7\n3" 26 2
+    ∷ refuses_later "0 5 2 4 7\n3" 26 2
     -- 26 on its own line, before 27
-    ∷ refusesLater "0 5 2 4 7\n1 2 1\n\n0 1" 26 4
-    ∷ refusesLater "0 5 2 4 7\n1 2 1\n3 1" 26 3
-    ∷ refusesLater "0 5 2 4 7\n1 2 1\n2 1" 27 0
+    ∷ refuses_later "0 5 2 4 7\n1 2 1\n\n0 1" 26 4
+    ∷ refuses_later "0 5 2 4 7\n1 2 1\n3 1" 26 3
+    ∷ refuses_later "0 5 2 4 7\n1 2 1\n2 1" 27 0
     -- ten digits are a number, eleven are none, and 2,147,483,647 is the largest
     ∷ judged "0 2147483647 0000000002 4 7" 27 granted granted
     ∷ refuses "0 5 00000000002 4 7" 23 1
@@ -113,9 +109,9 @@ abbrev pub OnAll : {A B : Type 0} → List A → (A → B) → (A → B) → Typ
 OnAll xs f g = map f xs ≡ map g xs
 
 pub record WorkedExamples : Type 0 where
-  pub headers : OnAll judgements (λ j. headerVerdict (j .size) (marks (bytes (j .text)))) (λ j. j .header)
-  pub schedules : OnAll judgements (λ j. scheduleVerdict (length nines) (j .size) (marks (bytes (j .text)))) (λ j. j .schedule)
-  pub openings : OnAll readings (λ r. headerOf (bytes (r .text))) (λ r. record { code = 0; line = 0; opening = r .opening; program = r .program })
-  pub programs : OnAll readings (λ r. scheduleOf (length nines) (bytes (r .text)) .program) (λ r. r .program)
-  pub rests : OnAll readings (λ r. restPlace (bytes (r .text))) (λ r. r .rest)
-  pub areas : OnAll readings (λ r. areaOf (bytes (r .text)) nines) (λ r. r .area)
+  pub headers : OnAll judgements (λ j. header_verdict j.size (marks (bytes j.text))) (λ j. j.header)
+  pub schedules : OnAll judgements (λ j. schedule_verdict (length nines) j.size (marks (bytes j.text))) (λ j. j.schedule)
+  pub openings : OnAll readings (λ r. header_of (bytes r.text)) (λ r. record { code = 0; line = 0; opening = r.opening; program = r.program })
+  pub programs : OnAll readings (λ r. (schedule_of (length nines) (bytes r.text)).program) (λ r. r.program)
+  pub rests : OnAll readings (λ r. rest_place (bytes r.text)) (λ r. r.rest)
+  pub areas : OnAll readings (λ r. area_of (bytes r.text) nines) (λ r. r.area)

@@ -2,6 +2,7 @@
 // definitions of specs/; what is claimed of the readers are theorems of this crate.
 use rules::Opening;
 
+#[derive(Drop)]
 pub enum Kind {
     End,
     LineEnd,
@@ -10,6 +11,7 @@ pub enum Kind {
 }
 
 // What stands at a place of the text, with the place after it. The value is a number's, and else 0.
+#[derive(Drop)]
 pub struct Token {
     pub kind: Kind,
     pub value: u32,
@@ -17,12 +19,14 @@ pub struct Token {
 }
 
 // The code of a refusal and its LINE, both 0 when granted.
+#[derive(Drop)]
 pub struct Verdict {
     pub code: u32,
     pub line: u32,
 }
 
 // The program is 0 where the header names none: five numbers, or a refusal.
+#[derive(Drop)]
 pub struct Header {
     pub code: u32,
     pub line: u32,
@@ -30,6 +34,7 @@ pub struct Header {
     pub program: u32,
 }
 
+#[derive(Drop)]
 pub struct Schedule {
     pub code: u32,
     pub line: u32,

@@ -5,10 +5,9 @@
 // with the first of them, up to 65,536 bytes where the other is a 6, and else up to 65,535.
 mod print;
 
+ghost use Rattle.std.specs.Prelude.{◌≡◌, ◌≤◌, ◌<◌, length};
+
 use libc::STDIN_FILENO;
-ghost use mathlib.Core.Path.{_≡_};
-ghost use Prim.Native.Nat.{_≤_, _<_};
-ghost use lib.ListN.{length};
 
 fn schedule(text: &[u8]) {
     let mut area = [9; 4];
@@ -41,7 +40,7 @@ fn show(name: &[u8], text: &[u8]) {
 
 // 65,536 times a byte. Only their number is known to a caller, which is all that lending them needs.
 fn repeated(b: u8) -> [u8; 65536]
-    ensures { λ r. ⌜ 65536 ≡ length r ⌝ }
+    ensures { 65536 ≡ length result }
 {
     [b; 65536]
 }
@@ -76,8 +75,8 @@ fn shown(name: &[u8], text: &[u8], end: &[u8]) {
 
 // Shows the piece that begins there, and tells where the next one does.
 fn piece(text: &[u8], at: usize) -> usize
-    requires { ⌜ at < length (now text) ⌝ }
-    ensures { λ r. ⌜ at < r ⌝ }
+    requires { at < length text.now }
+    ensures { at < result }
 {
     let name = bytes::scan::find(text, at, text.len(), b'\n');
     if name < text.len() {

@@ -1,35 +1,35 @@
 -- Laws of the bytes at a text's front that pass a test.
-use mathlib.Core.Path.{_≡_}
+use mathlib.Core.Path.{◌≡◌}
 use mathlib.Core.Bool.{Bool, true, false, cond}
-use mathlib.Core.List.{List, [], _∷_}
-use Prim.Native.Nat.{ℕ, suc, _+_, _≤_, _<_}
+use mathlib.Core.List.{List, [], ◌∷◌}
+use Prim.Native.Nat.{ℕ, suc, ◌+◌, ◌≤◌, ◌<◌}
 use native.Mathlib.Numerals.{add-one}
 use native.Mathlib.Omega.{arith}
-use lib.ListN.{length, getD, drop, length-drop, drop-of-length-le}
+use lib.ListN.{length, get_or, drop, length-drop, drop_of_length-le}
 use lib.Seq.{drop-cons}
-use Rattle·tokens·specs.specs.Scan.{frontOf}
+use Rattle.tokens.specs.Scan.{front_of}
 
 module _ (p : ℕ → Bool) (text : List ℕ) (i : ℕ) where
-  pub front-on : i < length text → p (getD text i 0) ≡ true → frontOf p (drop i text) ≡ getD text i 0 ∷ frontOf p (drop (i + 1) text)
-  unfolding frontOf
-  front-on h e = rw (add-one i, drop-cons text i 0 h, e)
+  pub front_on : i < length text → p (get_or text i 0) ≡ true → front_of p (drop i text) ≡ get_or text i 0 ∷ front_of p (drop (i + 1) text)
+  unfolding front_of
+  front_on h e = rw (add-one i, drop-cons text i 0 h, e)
 
-  pub front-off : i < length text → p (getD text i 0) ≡ false → frontOf p (drop i text) ≡ []
-  unfolding frontOf
-  front-off h e = rw (drop-cons text i 0 h, e)
+  pub front_off : i < length text → p (get_or text i 0) ≡ false → front_of p (drop i text) ≡ []
+  unfolding front_of
+  front_off h e = rw (drop-cons text i 0 h, e)
 
-  pub front-end : length text ≤ i → frontOf p (drop i text) ≡ []
-  unfolding frontOf
-  front-end h = rw (drop-of-length-le text h)
+  pub front_end : length text ≤ i → front_of p (drop i text) ≡ []
+  unfolding front_of
+  front_end h = rw (drop_of_length-le text h)
 
-front-most : (p : ℕ → Bool) (bs : List ℕ) → length (frontOf p bs) ≤ length bs
-unfolding frontOf
-front-most p [] = omega arith
-front-most p (b ∷ bs) = within (p b) (front-most p bs)
+front_most : (p : ℕ → Bool) (bs : List ℕ) → length (front_of p bs) ≤ length bs
+unfolding front_of
+front_most p [] = omega arith
+front_most p (b ∷ bs) = within (p b) (front_most p bs)
   where
-    within : (t : Bool) → length (frontOf p bs) ≤ length bs → length (cond t (b ∷ frontOf p bs) []) ≤ suc (length bs)
+    within : (t : Bool) → length (front_of p bs) ≤ length bs → length (cond t (b ∷ front_of p bs) []) ≤ suc (length bs)
     within true h = omega arith
     within false h = omega arith
 
-pub front-within : (p : ℕ → Bool) (text : List ℕ) (i : ℕ) → i ≤ length text → i + length (frontOf p (drop i text)) ≤ length text
-front-within p text i h = omega (arith, front-most p (drop i text), length-drop i text)
+pub front_within : (p : ℕ → Bool) (text : List ℕ) (i : ℕ) → i ≤ length text → i + length (front_of p (drop i text)) ≤ length text
+front_within p text i h = omega (arith, front_most p (drop i text), length-drop i text)

@@ -1,34 +1,33 @@
 // What stands at a place of the text, found byte by byte: how far a comment goes, a number, the token that comes next.
-ghost use mathlib.Core.Path.{_≡_};
-ghost use mathlib.Core.Bool.{true};
-ghost use Prim.Native.Nat.{_≤_};
-ghost use Rattle·text_rules.specs.Bytes.{isNumeral, isBlank};
-ghost use Rattle·text_rules.specs.Tokens.{tokenAt};
-ghost use Rattle·tokens·specs.specs.Scan.{commentEnd, mostGrown, grown, readAs, numberAt, Skipped, kindOf};
-use text_rules::Kind;
-use text_rules::Token;
+ghost use Rattle.std.specs.Prelude.{◌≡◌, true, ◌≤◌};
+ghost use Rattle.text_rules.specs.Bytes.{is_numeral, is_blank};
+ghost use Rattle.text_rules.specs.Tokens.{token_at};
+ghost use Rattle.tokens.specs.Scan.{comment_end, most_grown, grown, read_as, number_at, Skipped, kind_of};
+
+use text_rules::{Kind, Token};
 
 // What a run of digits is read as, and the place after it.
+#[derive(Drop)]
 pub struct Number {
     pub value: u32,
     pub end: usize,
 }
 
 pub fn is_numeral(b: u8) -> bool
-    ensures { λ r. ⌜ r ≡ isNumeral b ⌝ }
+    ensures { result ≡ is_numeral b }
 {
     (b'0' <= b) & (b <= b'9')
 }
 
 pub fn is_blank(b: u8) -> bool
-    ensures { λ r. ⌜ r ≡ isBlank b ⌝ }
+    ensures { result ≡ is_blank b }
 {
     (b == b' ') | (b == b'\t') | (b == b'\r')
 }
 
 // The place of the line end that closes a comment, or the text's end.
 pub fn comment_end(text: &[u8], from: usize) -> usize
-    ensures { λ r. ⌜ r ≡ commentEnd (now (text .entry)) from ⌝ }
+    ensures { result ≡ comment_end text.now from }
 {
     let mut i = from;
     while i < text.len() {
@@ -42,8 +41,8 @@ pub fn comment_end(text: &[u8], from: usize) -> usize
 
 // A number's value with one digit more; once it is too large it stays, so that it fits however many digits come.
 fn one_more(value: u64, b: u8) -> u64
-    requires { ⌜ (value ≤ mostGrown) × (isNumeral b ≡ true) ⌝ }
-    ensures { λ r. ⌜ r ≡ grown value b ⌝ }
+    requires { (value ≤ most_grown) × (is_numeral b ≡ true) }
+    ensures { result ≡ grown value b }
 {
     let digit = b - b'0';
     if value > Token::LARGEST as u64 {
@@ -55,7 +54,7 @@ fn one_more(value: u64, b: u8) -> u64
 
 // A run of so many digits and that value as a number.
 fn read_as(count: usize, value: u64) -> u32
-    ensures { λ r. ⌜ r ≡ readAs count value ⌝ }
+    ensures { result ≡ read_as count value }
 {
     if count > Token::DIGITS {
         Token::REFUSED
@@ -68,7 +67,7 @@ fn read_as(count: usize, value: u64) -> u32
 
 // The number at a place of the text, with all its digits.
 pub fn number_at(text: &[u8], from: usize) -> Number
-    ensures { λ r. ⌜ r ≡ numberAt (now (text .entry)) from ⌝ }
+    ensures { result ≡ number_at text.now from }
 {
     let mut i = from;
     let mut value = 0;
@@ -92,7 +91,7 @@ pub fn number_at(text: &[u8], from: usize) -> Number
 
 // The place of the next token's first byte, or the text's end.
 fn skipped(text: &[u8], place: usize) -> usize
-    ensures { λ r. ⌜ Skipped (now (text .entry)) place r ⌝ }
+    ensures { Skipped text.now place result }
 {
     let mut i = place;
     while i < text.len() {
@@ -110,7 +109,7 @@ fn skipped(text: &[u8], place: usize) -> usize
 
 // The kind of the token that a byte makes by itself.
 fn kind_of(b: u8) -> Kind
-    ensures { λ r. ⌜ r ≡ kindOf b ⌝ }
+    ensures { result ≡ kind_of b }
 {
     if b == b'\n' {
         Kind::LineEnd
@@ -121,7 +120,7 @@ fn kind_of(b: u8) -> Kind
 
 // The token at a place of the text.
 pub fn token_at(text: &[u8], place: usize) -> Token
-    ensures { λ r. ⌜ r ≡ tokenAt (now (text .entry)) place ⌝ }
+    ensures { result ≡ token_at text.now place }
 {
     let at = skipped(text, place);
     if text.len() <= at {

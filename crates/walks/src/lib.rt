@@ -1,9 +1,8 @@
 // What a walk from the root meets, in time that grows with the slots: the numbers wait in a queue, and each is counted.
-ghost use mathlib.Core.Path.{_≡_};
-ghost use Prim.Native.Nat.{_+_, _-_, _*_, _≤_, _<_};
-ghost use lib.ListN.{take};
-ghost use Rattle·rules.specs.Limits.{maxNodes};
-ghost use Rattle·walks·specs.specs.Counts.{met, meetings};
+ghost use Rattle.std.specs.Prelude.{◌≡◌, ◌+◌, ◌-◌, ◌*◌, ◌≤◌, ◌<◌, take};
+ghost use Rattle.rules.specs.Limits.{max_nodes};
+ghost use Rattle.walks.specs.Counts.{met, meetings};
+
 use rules::Opening;
 
 // The slots of a table, as a number of nodes.
@@ -14,6 +13,7 @@ const PLACES: usize = Opening::NODES + 1;
 const WAITING: usize = 2 * Opening::NODES + 1;
 
 // The numbers that a walk meets, in its order: the front of the area. They may pass 32 bits by one, since any left child is taken.
+#[derive(Drop)]
 struct Queue {
     places: [u64; WAITING],
     tail: usize,
@@ -21,7 +21,7 @@ struct Queue {
 
 // A number's slot, where it has one.
 fn slot_of(n: u64) -> usize
-    ensures { λ r. ⌜ (r < maxNodes) × ((n ≤ maxNodes) → r ≡ n - 1) ⌝ }
+    ensures { (result < max_nodes) × ((n ≤ max_nodes) → result ≡ n - 1) }
 {
     if n < 1 {
         return 0;
@@ -34,7 +34,7 @@ fn slot_of(n: u64) -> usize
 
 // The left child that stands in a number's slot; none for a number that has no slot.
 fn left_of(n: u64, left: u32) -> u64
-    ensures { λ r. ⌜ ((n ≤ maxNodes) → r ≡ left) × ((maxNodes < n) → r ≡ 0) × (r ≤ 4294967295) ⌝ }
+    ensures { ((n ≤ max_nodes) → result ≡ left) × ((max_nodes < n) → result ≡ 0) × (result ≤ 4294967295) }
 {
     if (SLOTS as u64) < n {
         return 0;
@@ -44,7 +44,7 @@ fn left_of(n: u64, left: u32) -> u64
 
 // How many more wait after the place i: two children, where a number stands there and has them.
 fn more_after(i: usize, tail: usize, left: u64) -> usize
-    ensures { λ r. ⌜ ((i < tail) → (0 < left) → r ≡ 2) × ((tail ≤ i) → r ≡ 0) × ((left ≤ 0) → r ≡ 0) × (r ≤ 2) ⌝ }
+    ensures { ((i < tail) → (0 < left) → result ≡ 2) × ((tail ≤ i) → result ≡ 0) × ((left ≤ 0) → result ≡ 0) × (result ≤ 2) }
 {
     if tail <= i {
         return 0;
@@ -57,7 +57,7 @@ fn more_after(i: usize, tail: usize, left: u64) -> usize
 
 // Every step stores a pair after the tail, and the tail moves on only where there is one: so no branch has a store.
 fn walked(lefts: [u32; Opening::NODES], used: u32) -> Queue
-    ensures { λ r. ⌜ (take (r .tail) (r .places) ≡ met lefts used) × (r .tail ≤ 2 * maxNodes + 1) ⌝ }
+    ensures { (take result.tail result.places ≡ met lefts used) × (result.tail ≤ 2 * max_nodes + 1) }
 {
     let steps = numbers::lesser(used, SLOTS) as usize;
     let mut places = [0u64; WAITING];
@@ -82,7 +82,7 @@ fn walked(lefts: [u32; Opening::NODES], used: u32) -> Queue
 
 // The place at which a number is counted: its own, and that of 0 for a number that has none.
 fn place_of(n: u64) -> usize
-    ensures { λ r. ⌜ (r ≤ maxNodes) × ((n ≤ maxNodes) → r ≡ n) ⌝ }
+    ensures { (result ≤ max_nodes) × ((n ≤ max_nodes) → result ≡ n) }
 {
     if (SLOTS as u64) < n {
         return 0;
@@ -92,14 +92,14 @@ fn place_of(n: u64) -> usize
 
 // How much one meeting with a number adds at its place: a number that has no place is not counted.
 fn count_of(n: u64) -> u32
-    ensures { λ r. ⌜ ((n ≤ maxNodes) → r ≡ 1) × ((maxNodes < n) → r ≡ 0) × (r ≤ 1) ⌝ }
+    ensures { ((n ≤ max_nodes) → result ≡ 1) × ((max_nodes < n) → result ≡ 0) × (result ≤ 1) }
 {
     if n <= SLOTS as u64 { 1 } else { 0 }
 }
 
 // How often the walk from the root meets each number, by the left child of each from 1 on. Any numbers may be handed in.
 pub fn meetings(lefts: [u32; Opening::NODES], used: u32) -> [u32; PLACES]
-    ensures { λ r. ⌜ r ≡ meetings lefts used ⌝ }
+    ensures { result ≡ meetings lefts used }
 {
     let q = walked(lefts, used);
     let places = q.places;

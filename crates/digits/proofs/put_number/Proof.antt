@@ -1,72 +1,72 @@
 -- The digits are counted, and each is written where it belongs, the last one first. The loop's invariant: those `Behind` the place stand.
-use borrow.Author.Needs.{needs}
+use borrow.Author.Rules.{rules}
 use native.Mathlib.Omega.{arith}
-use mathlib.Core.Path.{_≡_, refl}
-use Prim.Native.Nat.{_+_, _≤_}
+use mathlib.Core.Path.{◌≡◌, refl}
+use Prim.Native.Nat.{◌+◌, ◌≤◌}
 use lib.ListN.{length, length-set}
-use Rattle·line_rules.specs.Decimal.{decimal}
-use Rattle·line_rules.proofs.Decimal.{decimal-some}
-use Rattle·digits·proofs.proofs.Backwards.{Behind, behind-none, behind-room, behind-place, behind-more, behind-all}
-use Rattle·digits·proofs.proofs.put_number.Statement.{statement}
-use Rattle·digits·proofs.proofs.put_number.Tie as tie
+use Rattle.line_rules.specs.Decimal.{decimal}
+use Rattle.line_rules.proofs.Decimal.{decimal-some}
+use Rattle.digits.proofs.Backwards.{Behind, behind_none, behind_room, behind_place, behind_more, behind_all}
+use Rattle.digits.proofs.put_number.Statement.{statement}
+use Rattle.digits.proofs.put_number.Tie as tie
 
-abbrev Inv-loop : tie.InvT-loop
-Inv-loop area₀ at n end last₀ high₀ area last high = (at + length (decimal n) ≤ length area₀) × (end ≡ at + length (decimal n)) × (length area ≡ length area₀) × Behind area₀ at n last high area
+abbrev invariant-loop : tie.invariant-loop
+invariant-loop area₀ at n end last₀ high₀ area last high = (at + length (decimal n) ≤ length area₀) × (end ≡ at + length (decimal n)) × (length area ≡ length area₀) × Behind area₀ at n last high area
 
-abbrev μ-loop : tie.MeasureT-loop
-μ-loop area₀ at n end last₀ high₀ area last high = high
+abbrev decreases-loop : tie.decreases-loop
+decreases-loop area₀ at n end last₀ high₀ area last high = high
 
-width-requires : tie.Need-width-requires Inv-loop μ-loop
-width-requires c κs = search needs
+width-requires : tie.Need-width-requires invariant-loop decreases-loop
+width-requires c κs = search rules
 
-add-end : tie.Need-add-end Inv-loop μ-loop
-add-end c = search needs
+add-end : tie.Need-overflow-add-end invariant-loop decreases-loop
+add-end c = search rules
 
-sub-last : tie.Need-sub-last Inv-loop μ-loop
-sub-last c = omega (arith, c .width .ensures .0, decimal-some (c .before .before .args .n))
+sub-last : tie.Need-overflow-sub-last invariant-loop decreases-loop
+sub-last c = omega (arith, c.width.ensures.0, decimal-some c.before.before.args.n)
 
-loop-holds : tie.Need-loop-holds Inv-loop μ-loop
-loop-holds c = let one = decimal-some (c .before .before .args .n) in let e = c .width .ensures .0 in (c .before .before .pre, omega arith, refl, behind-none _ _ _ _ (omega arith))
+loop-holds : tie.Need-loop-init invariant-loop decreases-loop
+loop-holds c = let one = decimal-some c.before.before.args.n in let e = c.width.ensures.0 in (c.before.before.requires, omega arith, refl, behind_none _ _ _ _ (omega arith))
 
-cast-area : tie.Need-cast-area Inv-loop μ-loop
-cast-area c = search needs
+cast-area : tie.Need-overflow-cast-area invariant-loop decreases-loop
+cast-area c = search rules
 
-add-area : tie.Need-add-area Inv-loop μ-loop
-add-area c = search needs
+add-area : tie.Need-overflow-add-area invariant-loop decreases-loop
+add-area c = search rules
 
-slice-write-area : tie.Need-slice-write-area Inv-loop μ-loop
-slice-write-area c = behind-room _ _ _ _ _ _ (c .before .loop .inv .0) (c .before .loop .inv .3)
+slice-write-area : tie.Need-slice-write-area invariant-loop decreases-loop
+slice-write-area c = behind_room _ _ _ _ _ _ c.before.loop.invariant.0 c.before.loop.invariant.3
 
-sub-last-2 : tie.Need-sub-last-2 Inv-loop μ-loop
-sub-last-2 c = behind-place _ _ _ _ _ _ (c .before .loop .inv .0) (c .before .loop .inv .3) (c .loop-test .taken)
+sub-last-2 : tie.Need-overflow-sub-last-2 invariant-loop decreases-loop
+sub-last-2 c = behind_place _ _ _ _ _ _ c.before.loop.invariant.0 c.before.loop.invariant.3 c.loop-test.true
 
-loop-less : tie.Need-loop-less Inv-loop μ-loop
-loop-less c = search needs
+loop-less : tie.Need-loop-smaller invariant-loop decreases-loop
+loop-less c = search rules
 
-loop-again : tie.Need-loop-again Inv-loop μ-loop
-loop-again c = (c .before .loop .inv .0, c .before .loop .inv .1, simp length-set (c .before .loop .inv .2), behind-more _ _ _ _ _ _ (c .before .loop .inv .0) (c .before .loop .inv .3) (c .loop-test .taken))
+loop-again : tie.Need-loop-preserved invariant-loop decreases-loop
+loop-again c = (c.before.loop.invariant.0, c.before.loop.invariant.1, simp length-set c.before.loop.invariant.2, behind_more _ _ _ _ _ _ c.before.loop.invariant.0 c.before.loop.invariant.3 c.loop-test.true)
 
-cast-area-2 : tie.Need-cast-area-2 Inv-loop μ-loop
-cast-area-2 c = search needs
+cast-area-2 : tie.Need-overflow-cast-area-2 invariant-loop decreases-loop
+cast-area-2 c = search rules
 
-add-area-2 : tie.Need-add-area-2 Inv-loop μ-loop
-add-area-2 c = search needs
+add-area-2 : tie.Need-overflow-add-area-2 invariant-loop decreases-loop
+add-area-2 c = search rules
 
-slice-write-area-2 : tie.Need-slice-write-area-2 Inv-loop μ-loop
-slice-write-area-2 c = behind-room _ _ _ _ _ _ (c .before .loop .inv .0) (c .before .loop .inv .3)
+slice-write-area-2 : tie.Need-slice-write-area-2 invariant-loop decreases-loop
+slice-write-area-2 c = behind_room _ _ _ _ _ _ c.before.loop.invariant.0 c.before.loop.invariant.3
 
-same-length : tie.Need-same-length Inv-loop μ-loop
-same-length c = search needs
+same_length : tie.Need-same-length invariant-loop decreases-loop
+same_length c = search rules
 
-returns : tie.Need-returns Inv-loop μ-loop
-returns c = record { place = c .before .loop .inv .1; bytes = behind-all _ _ _ _ _ _ (c .before .loop .inv .0) (c .before .loop .inv .3) (c .loop-test .left) }
+returns : tie.Need-returns invariant-loop decreases-loop
+returns c = record { place = c.before.loop.invariant.1; bytes = behind_all _ _ _ _ _ _ c.before.loop.invariant.0 c.before.loop.invariant.3 c.loop-test.false }
 
-pub put-number-spec : {M : Type 1} → statement M
-put-number-spec =
+pub put_number_spec : {M : Type 1} → statement M
+put_number_spec =
     tie.close
     (tie.spec
-    Inv-loop
-    μ-loop
+    invariant-loop
+    decreases-loop
     width-requires
     add-end
     sub-last
@@ -80,5 +80,5 @@ put-number-spec =
     cast-area-2
     add-area-2
     slice-write-area-2
-    same-length
+    same_length
     returns)

@@ -1,38 +1,38 @@
 -- The count of digits. The loop's invariant: what was counted and the digits still to count are one more than the number's digits.
-use Prim.Native.Nat.{_+_}
-use mathlib.Core.Path.{_≡_, refl}
+use Prim.Native.Nat.{◌+◌}
+use mathlib.Core.Path.{◌≡◌, refl}
 use native.Mathlib.Omega.{arith}
 use lib.ListN.{length}
-use Rattle·line_rules.specs.Decimal.{decimal}
-use Rattle·line_rules.proofs.Decimal.{decimal-some, decimal-width, decimal-shorter, decimal-one}
-use Rattle·digits·proofs.proofs.width.Statement.{statement}
-use Rattle·digits·proofs.proofs.width.Tie as tie
+use Rattle.line_rules.specs.Decimal.{decimal}
+use Rattle.line_rules.proofs.Decimal.{decimal-some, decimal_width, decimal_shorter, decimal_one}
+use Rattle.digits.proofs.width.Statement.{statement}
+use Rattle.digits.proofs.width.Tie as tie
 
-abbrev Inv-loop : tie.InvT-loop
-Inv-loop n high₀ count₀ high count = count + length (decimal high) ≡ 1 + length (decimal n)
+abbrev invariant-loop : tie.invariant-loop
+invariant-loop n high₀ count₀ high count = count + length (decimal high) ≡ 1 + length (decimal n)
 
-abbrev μ-loop : tie.MeasureT-loop
-μ-loop n high₀ count₀ high count = high
+abbrev decreases-loop : tie.decreases-loop
+decreases-loop n high₀ count₀ high count = high
 
-loop-holds : tie.Need-loop-holds Inv-loop μ-loop
+loop-holds : tie.Need-loop-init invariant-loop decreases-loop
 loop-holds c = refl
 
-add-count : tie.Need-add-count Inv-loop μ-loop
+add-count : tie.Need-overflow-add-count invariant-loop decreases-loop
 add-count c =
     omega
-    (arith, decimal-width 19 (c .before .before .args .n) (omega arith), decimal-some (c .before .loop .high))
+    (arith, decimal_width 19 c.before.before.args.n (omega arith), decimal-some c.before.loop.high)
 
-loop-less : tie.Need-loop-less Inv-loop μ-loop
+loop-less : tie.Need-loop-smaller invariant-loop decreases-loop
 loop-less c = omega arith
 
-loop-again : tie.Need-loop-again Inv-loop μ-loop
-loop-again c = omega (arith, decimal-shorter (c .before .loop .high) (c .loop-test .taken))
+loop-again : tie.Need-loop-preserved invariant-loop decreases-loop
+loop-again c = omega (arith, decimal_shorter c.before.loop.high c.loop-test.true)
 
-returns : tie.Need-returns Inv-loop μ-loop
+returns : tie.Need-returns invariant-loop decreases-loop
 returns c =
-    let one = decimal-one (c .before .loop .high) (c .loop-test .left) in
-    let most = decimal-width 19 (c .before .before .args .n) (omega arith) in
+    let one = decimal_one c.before.loop.high c.loop-test.false in
+    let most = decimal_width 19 c.before.before.args.n (omega arith) in
     (omega arith, omega arith)
 
-pub width-spec : {M : Type 1} → statement M
-width-spec = tie.close (tie.spec Inv-loop μ-loop loop-holds add-count loop-less loop-again returns)
+pub width_spec : {M : Type 1} → statement M
+width_spec = tie.close (tie.spec invariant-loop decreases-loop loop-holds add-count loop-less loop-again returns)

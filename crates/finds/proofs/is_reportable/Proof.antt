@@ -1,12 +1,12 @@
 -- Each number within its limits, and no label without a find.
-use Rattle·numbers.proofs.Signed.{held}
-use Rattle·rules.specs.Joining.{reportable}
-use Rattle·finds·proofs.proofs.is_reportable.Statement.{statement}
-use Rattle·finds·proofs.proofs.is_reportable.Tie as tie
+use Rattle.numbers.proofs.Signed.{held}
+use Rattle.rules.specs.Joining.{reportable}
+use Rattle.finds.proofs.is_reportable.Statement.{statement}
+use Rattle.finds.proofs.is_reportable.Tie as tie
 
-pub is-reportable-spec : {M : Type 1} → statement M
+pub is_reportable_spec : {M : Type 1} → statement M
 unfolding reportable
-is-reportable-spec =
+is_reportable_spec =
     tie.close
     (tie.spec
     (λ c κs. tt)
@@ -16,5 +16,5 @@ is-reportable-spec =
     (λ c κs. tt)
     (λ c κs. tt)
     (λ c.
-    let q = c .before .before .before .before .before .before in
-    cc (held (q .args .count) (q .fits .count), held (q .args .first) (q .fits .first), held (q .args .last) (q .fits .last))))
+    let q = c.before.before.before.before.before.before in
+    cc (held q.args.count q.ranges.count, held q.args.first q.ranges.first, held q.args.last q.ranges.last)))

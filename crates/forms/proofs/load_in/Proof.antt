@@ -1,85 +1,85 @@
 -- The invariant: both are the sums over the first i slots.
-use borrow.Author.Needs.{needs}
+use borrow.Author.Rules.{rules}
 use native.Mathlib.Omega.{arith}
-use mathlib.Core.Path.{_≡_, sym, ap, _∙_}
-use Prim.Native.Nat.{_-_, _≤_, _<_}
-use lib.ListN.{length, take, getD}
-use lib.Seq.{take-all}
-use Rattle·rules.specs.Limits.{maxNodes}
-use Rattle·rules.specs.Nodes.{blank, usedOf}
-use Rattle·rules.specs.States.{stolenOf}
-use Rattle·rules.specs.Table.{sumBy, stolenIn, takenIn}
-use Rattle·rules.proofs.Blank.{used-most}
-use Rattle·rules.proofs.States.{at-most-one}
-use Rattle·rules.proofs.Sums.{sumBy-next, sumBy-none}
-use Rattle·forms·proofs.proofs.Laws.{length-under}
-use Rattle·forms·proofs.proofs.load_in.Statement.{statement}
-use Rattle·forms·proofs.proofs.load_in.Tie as tie
+use mathlib.Core.Path.{◌≡◌, sym, ap, ◌∙◌}
+use Prim.Native.Nat.{◌-◌, ◌≤◌, ◌<◌}
+use lib.ListN.{length, take, get_or}
+use lib.Seq.{take_all}
+use Rattle.rules.specs.Limits.{max_nodes}
+use Rattle.rules.specs.Nodes.{blank, used_of}
+use Rattle.rules.specs.States.{stolen_of}
+use Rattle.rules.specs.Table.{sum_by, stolen_in, taken_in}
+use Rattle.rules.proofs.Blank.{used_most}
+use Rattle.rules.proofs.States.{at_most_one}
+use Rattle.rules.proofs.Sums.{sum_by_next, sum_by_none}
+use Rattle.forms.proofs.Laws.{length_under}
+use Rattle.forms.proofs.load_in.Statement.{statement}
+use Rattle.forms.proofs.load_in.Tie as tie
 
-abbrev Inv-loop : tie.InvT-loop
-Inv-loop l taken₀ stolen₀ i₀ taken stolen i = (i ≤ maxNodes) × (taken ≤ i) × (stolen ≤ i) × (taken ≡ sumBy usedOf (take i (l .nodes))) × (stolen ≡ sumBy stolenOf (take i (l .nodes))) × (length (l .nodes) ≡ maxNodes)
+abbrev invariant-loop : tie.invariant-loop
+invariant-loop l taken₀ stolen₀ i₀ taken stolen i = (i ≤ max_nodes) × (taken ≤ i) × (stolen ≤ i) × (taken ≡ sum_by used_of (take i l.nodes)) × (stolen ≡ sum_by stolen_of (take i l.nodes)) × (length l.nodes ≡ max_nodes)
 
-abbrev μ-loop : tie.MeasureT-loop
-μ-loop l taken₀ stolen₀ i₀ taken stolen i = maxNodes - i
+abbrev decreases-loop : tie.decreases-loop
+decreases-loop l taken₀ stolen₀ i₀ taken stolen i = max_nodes - i
 
-loop-holds : tie.Need-loop-holds Inv-loop μ-loop
-loop-holds c = (omega arith, omega arith, omega arith, sym (sumBy-none usedOf (c .args .t1 .nodes)), sym (sumBy-none stolenOf (c .args .t1 .nodes)), search (needs, length-under))
+loop-holds : tie.Need-loop-init invariant-loop decreases-loop
+loop-holds c = (omega arith, omega arith, omega arith, sym (sum_by_none used_of c.args.t1.nodes), sym (sum_by_none stolen_of c.args.t1.nodes), search (rules, length_under))
 
-mul-x : tie.Need-mul-x Inv-loop μ-loop
-mul-x c = search needs
+mul-x : tie.Need-overflow-mul-x invariant-loop decreases-loop
+mul-x c = search rules
 
-element-copy-out-x : tie.Need-element-copy-out-x Inv-loop μ-loop
-element-copy-out-x c = search needs
+element-copy-out-x : tie.Need-element-copy-out-x invariant-loop decreases-loop
+element-copy-out-x c = search rules
 
-used-one-requires : tie.Need-used-one-requires Inv-loop μ-loop
-used-one-requires c κs = search needs
+used-one-requires : tie.Need-used-one-requires invariant-loop decreases-loop
+used-one-requires c κs = search rules
 
-add-taken : tie.Need-add-taken Inv-loop μ-loop
-add-taken c = let a = c .before .before .before .before .args .t1 .nodes in let i = c .before .before .before .loop .i in omega (arith, c .used-one .ensures, used-most (getD a i blank))
+add-taken : tie.Need-overflow-add-taken invariant-loop decreases-loop
+add-taken c = let a = c.before.before.before.before.args.t1.nodes in let i = c.before.before.before.loop.i in omega (arith, c.used-one.ensures, used_most (get_or a i blank))
 
-stolen-one-requires : tie.Need-stolen-one-requires Inv-loop μ-loop
-stolen-one-requires c κs = search needs
+stolen-one-requires : tie.Need-stolen-one-requires invariant-loop decreases-loop
+stolen-one-requires c κs = search rules
 
-add-stolen : tie.Need-add-stolen Inv-loop μ-loop
-add-stolen c = let a = c .before .before .before .before .before .args .t1 .nodes in let i = c .before .before .before .before .loop .i in omega (arith, c .stolen-one .ensures, at-most-one (getD a i blank))
+add-stolen : tie.Need-overflow-add-stolen invariant-loop decreases-loop
+add-stolen c = let a = c.before.before.before.before.before.args.t1.nodes in let i = c.before.before.before.before.loop.i in omega (arith, c.stolen_one.ensures, at_most_one (get_or a i blank))
 
-add-i : tie.Need-add-i Inv-loop μ-loop
-add-i c = search needs
+add-i : tie.Need-overflow-add-i invariant-loop decreases-loop
+add-i c = search rules
 
-loop-less : tie.Need-loop-less Inv-loop μ-loop
-loop-less c = search needs
+loop-less : tie.Need-loop-smaller invariant-loop decreases-loop
+loop-less c = search rules
 
-loop-again : tie.Need-loop-again Inv-loop μ-loop
+loop-again : tie.Need-loop-preserved invariant-loop decreases-loop
 loop-again c =
-    let a = c .before .before .before .before .before .args .t1 .nodes in
-    let i = c .before .before .before .before .loop .i in
-    let inv = c .before .before .before .before .loop .inv in
-    let used = c .before .used-one .ensures in
-    let stolen = c .stolen-one .ensures in
-    let h : i < length a = omega (arith, inv .5) in (
+    let a = c.before.before.before.before.before.args.t1.nodes in
+    let i = c.before.before.before.before.loop.i in
+    let inv = c.before.before.before.before.loop.invariant in
+    let used = c.before.used-one.ensures in
+    let stolen = c.stolen_one.ensures in
+    let h : i < length a = omega (arith, inv.5) in (
       omega arith,
-      omega (arith, inv .1, used, used-most (getD a i blank)),
-      omega (arith, inv .2, stolen, at-most-one (getD a i blank)),
-      omega (arith, inv .3, used, sumBy-next usedOf a i blank h),
-      omega (arith, inv .4, stolen, sumBy-next stolenOf a i blank h),
-      inv .5,
+      omega (arith, inv.1, used, used_most (get_or a i blank)),
+      omega (arith, inv.2, stolen, at_most_one (get_or a i blank)),
+      omega (arith, inv.3, used, sum_by_next used_of a i blank h),
+      omega (arith, inv.4, stolen, sum_by_next stolen_of a i blank h),
+      inv.5,
     )
 
-returns : tie.Need-returns Inv-loop μ-loop
-unfolding takenIn stolenIn
+returns : tie.Need-returns invariant-loop decreases-loop
+unfolding taken_in stolen_in
 returns c =
-    let a = c .before .before .args .t1 .nodes in
-    let inv = c .before .loop .inv in
-    let h : length a ≤ c .before .loop .i = omega (arith, inv .5) in
-    let all = take-all (c .before .loop .i) a h in
-    (inv .3 ∙ ap (sumBy usedOf) all, inv .4 ∙ ap (sumBy stolenOf) all)
+    let a = c.before.before.args.t1.nodes in
+    let inv = c.before.loop.invariant in
+    let h : length a ≤ c.before.loop.i = omega (arith, inv.5) in
+    let all = take_all c.before.loop.i a h in
+    (inv.3 ∙ ap (sum_by used_of) all, inv.4 ∙ ap (sum_by stolen_of) all)
 
-pub load-in-spec : {M : Type 1} → statement M
-load-in-spec =
+pub load_in_spec : {M : Type 1} → statement M
+load_in_spec =
     tie.close
     (tie.spec
-    Inv-loop
-    μ-loop
+    invariant-loop
+    decreases-loop
     loop-holds
     mul-x
     element-copy-out-x

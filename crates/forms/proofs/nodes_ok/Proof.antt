@@ -1,126 +1,126 @@
 -- The invariant: the first i nodes pass the test.
-use borrow.Author.Needs.{needs}
+use borrow.Author.Rules.{rules}
 use native.Mathlib.Omega.{arith}
-use mathlib.Core.Path.{_≡_, refl, ap₂, _∙_}
-use mathlib.Core.Bool.{_||_}
-use Prim.Native.Nat.{ℕ, _+_, _-_, _%_, _≤_, _<_}
-use lib.ListN.{length, take, getD}
-use Rattle·rules.specs.Limits.{maxNodes}
-use Rattle·rules.specs.Nodes.{blank}
-use Rattle·rules.specs.Table.{at}
-use Rattle·rules.specs.WellFormed.{upTo, aloneRule, nodeRule}
-use Rattle·rules.proofs.Nodes.{at-next}
-use Rattle·forms·proofs.proofs.Laws.{upTo-none, upTo-more, child-slots, free-slot}
-use Rattle·forms·proofs.proofs.nodes_ok.Statement.{statement}
-use Rattle·forms·proofs.proofs.nodes_ok.Tie as tie
+use mathlib.Core.Path.{◌≡◌, refl, ap₂, ◌∙◌}
+use mathlib.Core.Bool.{◌||◌}
+use Prim.Native.Nat.{ℕ, ◌+◌, ◌-◌, ◌%◌, ◌≤◌, ◌<◌}
+use lib.ListN.{length, take, get_or}
+use Rattle.rules.specs.Limits.{max_nodes}
+use Rattle.rules.specs.Nodes.{blank}
+use Rattle.rules.specs.Table.{at}
+use Rattle.rules.specs.WellFormed.{up_to, alone_rule, node_rule}
+use Rattle.rules.proofs.Nodes.{at_next}
+use Rattle.forms.proofs.Laws.{up_to_none, up_to_more, child_slots, free_slot_lem}
+use Rattle.forms.proofs.nodes_ok.Statement.{statement}
+use Rattle.forms.proofs.nodes_ok.Tie as tie
 
-abbrev Inv-loop : tie.InvT-loop
-Inv-loop l used teams ok₀ i₀ ok i = (i ≤ used) × (ok ≡ upTo (nodeRule l) i)
+abbrev invariant-loop : tie.invariant-loop
+invariant-loop l used teams ok₀ i₀ ok i = (i ≤ used) × (ok ≡ up_to (node_rule l) i)
 
-abbrev μ-loop : tie.MeasureT-loop
-μ-loop l used teams ok₀ i₀ ok i = used - i
+abbrev decreases-loop : tie.decreases-loop
+decreases-loop l used teams ok₀ i₀ ok i = used - i
 
-loop-holds : tie.Need-loop-holds Inv-loop μ-loop
-loop-holds c = (search needs, upTo-none _)
+loop-holds : tie.Need-loop-init invariant-loop decreases-loop
+loop-holds c = (search rules, up_to_none _)
 
-cast-slot : tie.Need-cast-slot Inv-loop μ-loop
-cast-slot c = search needs
+cast-slot : tie.Need-overflow-cast-slot invariant-loop decreases-loop
+cast-slot c = search rules
 
-mul-x : tie.Need-mul-x Inv-loop μ-loop
-mul-x c = search needs
+mul-x : tie.Need-overflow-mul-x invariant-loop decreases-loop
+mul-x c = search rules
 
-element-copy-out-x : tie.Need-element-copy-out-x Inv-loop μ-loop
-element-copy-out-x c = search needs
+element-copy-out-x : tie.Need-element-copy-out-x invariant-loop decreases-loop
+element-copy-out-x c = search rules
 
-pair-slot-requires : tie.Need-pair-slot-requires Inv-loop μ-loop
-pair-slot-requires c κs = search needs
+pair-slot-requires : tie.Need-pair-slot-requires invariant-loop decreases-loop
+pair-slot-requires c κs = search rules
 
-sub-left : tie.Need-sub-left Inv-loop μ-loop
-sub-left c = search needs
+sub-left : tie.Need-overflow-sub-left invariant-loop decreases-loop
+sub-left c = search rules
 
-mul-a : tie.Need-mul-a Inv-loop μ-loop
-mul-a c = search needs
+mul-a : tie.Need-overflow-mul-a invariant-loop decreases-loop
+mul-a c = search rules
 
-element-copy-out-a : tie.Need-element-copy-out-a Inv-loop μ-loop
-element-copy-out-a c = search needs
+element-copy-out-a : tie.Need-element-copy-out-a invariant-loop decreases-loop
+element-copy-out-a c = search rules
 
-mul-b : tie.Need-mul-b Inv-loop μ-loop
-mul-b c = search needs
+mul-b : tie.Need-overflow-mul-b invariant-loop decreases-loop
+mul-b c = search rules
 
-element-copy-out-b : tie.Need-element-copy-out-b Inv-loop μ-loop
-element-copy-out-b c = search needs
+element-copy-out-b : tie.Need-element-copy-out-b invariant-loop decreases-loop
+element-copy-out-b c = search rules
 
-family-ok-requires : tie.Need-family-ok-requires Inv-loop μ-loop
-family-ok-requires c κs = search needs
+family-ok-requires : tie.Need-family-ok-requires invariant-loop decreases-loop
+family-ok-requires c κs = search rules
 
-add-n : tie.Need-add-n Inv-loop μ-loop
-add-n c = search needs
+add-n : tie.Need-overflow-add-n invariant-loop decreases-loop
+add-n c = search rules
 
-sub-pair : tie.Need-sub-pair Inv-loop μ-loop
-sub-pair c = search needs
+sub-pair : tie.Need-overflow-sub-pair invariant-loop decreases-loop
+sub-pair c = search rules
 
-less-by-requires : tie.Need-less-by-requires Inv-loop μ-loop
-less-by-requires c κs = search needs
+less-by-requires : tie.Need-less-by-requires invariant-loop decreases-loop
+less-by-requires c κs = search rules
 
-cast-first : tie.Need-cast-first Inv-loop μ-loop
-cast-first c = search needs
+cast-first : tie.Need-overflow-cast-first invariant-loop decreases-loop
+cast-first c = search rules
 
-mul-first : tie.Need-mul-first Inv-loop μ-loop
-mul-first c = search needs
+mul-first : tie.Need-overflow-mul-first invariant-loop decreases-loop
+mul-first c = search rules
 
-element-copy-out-first : tie.Need-element-copy-out-first Inv-loop μ-loop
-element-copy-out-first c = search needs
+element-copy-out-first : tie.Need-element-copy-out-first invariant-loop decreases-loop
+element-copy-out-first c = search rules
 
-cast-second : tie.Need-cast-second Inv-loop μ-loop
-cast-second c = search needs
+cast-second : tie.Need-overflow-cast-second invariant-loop decreases-loop
+cast-second c = search rules
 
-mul-second : tie.Need-mul-second Inv-loop μ-loop
-mul-second c = search needs
+mul-second : tie.Need-overflow-mul-second invariant-loop decreases-loop
+mul-second c = search rules
 
-element-copy-out-second : tie.Need-element-copy-out-second Inv-loop μ-loop
-element-copy-out-second c = search needs
+element-copy-out-second : tie.Need-element-copy-out-second invariant-loop decreases-loop
+element-copy-out-second c = search rules
 
-pair-free-requires : tie.Need-pair-free-requires Inv-loop μ-loop
-pair-free-requires c κs = search needs
+pair-free-requires : tie.Need-pair-free-requires invariant-loop decreases-loop
+pair-free-requires c κs = search rules
 
-add-i : tie.Need-add-i Inv-loop μ-loop
-add-i c = search needs
+add-i : tie.Need-overflow-add-i invariant-loop decreases-loop
+add-i c = search rules
 
-loop-less : tie.Need-loop-less Inv-loop μ-loop
-loop-less c = search needs
+loop-less : tie.Need-loop-smaller invariant-loop decreases-loop
+loop-less c = search rules
 
-loop-again : tie.Need-loop-again Inv-loop μ-loop
-unfolding nodeRule
+loop-again : tie.Need-loop-preserved invariant-loop decreases-loop
+unfolding node_rule
 loop-again c =
-    let l = c .before .before .before .before .before .before .before .before .before .before .before .args .t1 in
-    let loop = c .before .before .before .before .before .before .before .before .before .before .loop in
-    let pair = c .before .before .before .before .before .before .before .pair-slot in
-    let small : l .used ≤ maxNodes = search needs in
+    let l = c.before.before.before.before.before.before.before.before.before.before.before.args.t1 in
+    let loop = c.before.before.before.before.before.before.before.before.before.before.loop in
+    let pair = c.before.before.before.before.before.before.before.pair-slot in
+    let small : l.used ≤ max_nodes = search rules in
     let slots =
-    child-slots
-    (aloneRule (l .teams) (getD (l .nodes) (loop .i) blank))
-    (l .used)
-    (getD (l .nodes) (loop .i) blank)
-    (λ j. getD (l .nodes) j blank)
+    child_slots
+    (alone_rule l.teams (get_or l.nodes loop.i blank))
+    l.used
+    (get_or l.nodes loop.i blank)
+    (λ j. get_or l.nodes j blank)
     (at l)
-    (pair .result)
+    pair.result
     small
-    (at-next l)
-    (pair .ensures .0)
-    (pair .ensures .2) in
-    let free = free-slot l (loop .i + 1) _ _ refl (c .before .before .before .less-by .ensures) (c .pair-free .ensures) in
-    let family = c .before .before .before .before .family-ok .ensures ∙ slots in
-    (search needs, upTo-more _ _ (loop .inv .1) (rw (at-next l (loop .i)) (ap₂ _||_ free family)))
+    (at_next l)
+    pair.ensures.0
+    pair.ensures.2 in
+    let free = free_slot_lem l (loop.i + 1) _ _ refl c.before.before.before.less_by.ensures c.pair_free.ensures in
+    let family = c.before.before.before.before.family-ok.ensures ∙ slots in
+    (search rules, up_to_more _ _ loop.invariant.1 (rw (at_next l loop.i) (ap₂ ◌||◌ free family)))
 
-returns : tie.Need-returns Inv-loop μ-loop
-returns c = let e : c .before .loop .i ≡ c .before .before .args .t1 .used = omega arith in cc
+returns : tie.Need-returns invariant-loop decreases-loop
+returns c = let e : c.before.loop.i ≡ c.before.before.args.t1.used = omega arith in cc
 
-pub nodes-ok-spec : {M : Type 1} → statement M
-nodes-ok-spec =
+pub nodes_ok_spec : {M : Type 1} → statement M
+nodes_ok_spec =
     tie.close
     (tie.spec
-    Inv-loop
-    μ-loop
+    invariant-loop
+    decreases-loop
     loop-holds
     cast-slot
     mul-x

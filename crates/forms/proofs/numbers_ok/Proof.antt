@@ -1,8 +1,8 @@
 -- Each number is tested as the limits say.
-use Rattle·forms·proofs.proofs.Laws.{numbers-are}
-use Rattle·forms·proofs.proofs.numbers_ok.Statement.{statement}
-use Rattle·forms·proofs.proofs.numbers_ok.Tie as tie
+use Rattle.forms.proofs.Laws.{numbers_are}
+use Rattle.forms.proofs.numbers_ok.Statement.{statement}
+use Rattle.forms.proofs.numbers_ok.Tie as tie
 
-pub numbers-ok-spec : {M : Type 1} → statement M
-numbers-ok-spec = tie.close (tie.spec
-    (λ c. numbers-are (c .before .before .before .before .before .before .before .before .args .l)))
+pub numbers_ok_spec : {M : Type 1} → statement M
+numbers_ok_spec = tie.close (tie.spec
+    (λ c. numbers_are c.before.before.before.before.before.before.before.before.args.l))

@@ -1,95 +1,95 @@
 -- The invariant: the first i numbers pass the test, by the list of counts.
-use borrow.Author.Needs.{needs}
+use borrow.Author.Rules.{rules}
 use native.Mathlib.Omega.{arith}
-use mathlib.Core.Path.{_≡_, refl}
-use Prim.Native.Nat.{ℕ, _+_, _-_, _%_, _≤_, _<_}
-use lib.ListN.{length, getD}
-use Rattle·rules.specs.Limits.{maxNodes}
-use Rattle·rules.specs.WellFormed.{upTo, pairRule}
-use Rattle·forms·proofs.proofs.Laws.{upTo-none, upTo-more, pair-counted}
-use Rattle·forms·proofs.proofs.pairs_ok.Statement.{statement}
-use Rattle·forms·proofs.proofs.pairs_ok.Tie as tie
+use mathlib.Core.Path.{◌≡◌, refl}
+use Prim.Native.Nat.{ℕ, ◌+◌, ◌-◌, ◌%◌, ◌≤◌, ◌<◌}
+use lib.ListN.{length, get_or}
+use Rattle.rules.specs.Limits.{max_nodes}
+use Rattle.rules.specs.WellFormed.{up_to, pair_rule}
+use Rattle.forms.proofs.Laws.{up_to_none, up_to_more, pair_counted}
+use Rattle.forms.proofs.pairs_ok.Statement.{statement}
+use Rattle.forms.proofs.pairs_ok.Tie as tie
 
-abbrev Inv-loop : tie.InvT-loop
-Inv-loop l used seen ok₀ i₀ ok i = (i ≤ used) × (ok ≡ upTo (pairRule l) i)
+abbrev invariant-loop : tie.invariant-loop
+invariant-loop l used seen ok₀ i₀ ok i = (i ≤ used) × (ok ≡ up_to (pair_rule l) i)
 
-abbrev μ-loop : tie.MeasureT-loop
-μ-loop l used seen ok₀ i₀ ok i = used - i
+abbrev decreases-loop : tie.decreases-loop
+decreases-loop l used seen ok₀ i₀ ok i = used - i
 
-tally-requires : tie.Need-tally-requires Inv-loop μ-loop
-tally-requires c κs = search needs
+tally-requires : tie.Need-tally-requires invariant-loop decreases-loop
+tally-requires c κs = search rules
 
-loop-holds : tie.Need-loop-holds Inv-loop μ-loop
-loop-holds c = (search needs, upTo-none _)
+loop-holds : tie.Need-loop-init invariant-loop decreases-loop
+loop-holds c = (search rules, up_to_none _)
 
-add-c : tie.Need-add-c Inv-loop μ-loop
-add-c c = search needs
+add-c : tie.Need-overflow-add-c invariant-loop decreases-loop
+add-c c = search rules
 
-sub-pair : tie.Need-sub-pair Inv-loop μ-loop
-sub-pair c = search needs
+sub-pair : tie.Need-overflow-sub-pair invariant-loop decreases-loop
+sub-pair c = search rules
 
-less-by-requires : tie.Need-less-by-requires Inv-loop μ-loop
-less-by-requires c κs = search needs
+less-by-requires : tie.Need-less-by-requires invariant-loop decreases-loop
+less-by-requires c κs = search rules
 
-cast-first : tie.Need-cast-first Inv-loop μ-loop
-cast-first c = search needs
+cast-first : tie.Need-overflow-cast-first invariant-loop decreases-loop
+cast-first c = search rules
 
-mul-first : tie.Need-mul-first Inv-loop μ-loop
-mul-first c = search needs
+mul-first : tie.Need-overflow-mul-first invariant-loop decreases-loop
+mul-first c = search rules
 
-element-copy-out-first : tie.Need-element-copy-out-first Inv-loop μ-loop
-element-copy-out-first c = search needs
+element-copy-out-first : tie.Need-element-copy-out-first invariant-loop decreases-loop
+element-copy-out-first c = search rules
 
-cast-second : tie.Need-cast-second Inv-loop μ-loop
-cast-second c = search needs
+cast-second : tie.Need-overflow-cast-second invariant-loop decreases-loop
+cast-second c = search rules
 
-mul-second : tie.Need-mul-second Inv-loop μ-loop
-mul-second c = search needs
+mul-second : tie.Need-overflow-mul-second invariant-loop decreases-loop
+mul-second c = search rules
 
-element-copy-out-second : tie.Need-element-copy-out-second Inv-loop μ-loop
-element-copy-out-second c = search needs
+element-copy-out-second : tie.Need-element-copy-out-second invariant-loop decreases-loop
+element-copy-out-second c = search rules
 
-parents-due-requires : tie.Need-parents-due-requires Inv-loop μ-loop
-parents-due-requires c κs = search needs
+parents-due-requires : tie.Need-parents-due-requires invariant-loop decreases-loop
+parents-due-requires c κs = search rules
 
-cast-had : tie.Need-cast-had Inv-loop μ-loop
-cast-had c = search needs
+cast-had : tie.Need-overflow-cast-had invariant-loop decreases-loop
+cast-had c = search rules
 
-mul-had : tie.Need-mul-had Inv-loop μ-loop
-mul-had c = search needs
+mul-had : tie.Need-overflow-mul-had invariant-loop decreases-loop
+mul-had c = search rules
 
-array-read-had : tie.Need-array-read-had Inv-loop μ-loop
-array-read-had c = search needs
+array-read-had : tie.Need-array-read-had invariant-loop decreases-loop
+array-read-had c = search rules
 
-add-i : tie.Need-add-i Inv-loop μ-loop
-add-i c = search needs
+add-i : tie.Need-overflow-add-i invariant-loop decreases-loop
+add-i c = search rules
 
-loop-less : tie.Need-loop-less Inv-loop μ-loop
-loop-less c = search needs
+loop-less : tie.Need-loop-smaller invariant-loop decreases-loop
+loop-less c = search rules
 
-loop-again : tie.Need-loop-again Inv-loop μ-loop
+loop-again : tie.Need-loop-preserved invariant-loop decreases-loop
 loop-again c =
-    let l = c .before .before .before .before .before .before .before .args .t1 in
-    let seen = c .before .before .before .before .before .before .tally in
-    let loop = c .before .before .before .before .before .loop in
-    let small : loop .i + 1 ≤ maxNodes = search needs in (
-      search needs,
-      upTo-more
+    let l = c.before.before.before.before.before.before.before.args.t1 in
+    let seen = c.before.before.before.before.before.before.tally in
+    let loop = c.before.before.before.before.before.loop in
+    let small : loop.i + 1 ≤ max_nodes = search rules in (
+      search rules,
+      up_to_more
           _
           _
-          (loop .inv .1)
-          (pair-counted l (loop .i + 1) _ _ refl (c .before .before .before .less-by .ensures) (seen .result) _ (seen .ensures) small (c .parents-due .ensures)),
+          loop.invariant.1
+          (pair_counted l (loop.i + 1) _ _ refl c.before.before.before.less_by.ensures seen.result _ seen.ensures small c.parents_due.ensures),
     )
 
-returns : tie.Need-returns Inv-loop μ-loop
-returns c = let e : c .before .loop .i ≡ c .before .before .before .args .t1 .used = omega arith in cc
+returns : tie.Need-returns invariant-loop decreases-loop
+returns c = let e : c.before.loop.i ≡ c.before.before.before.args.t1.used = omega arith in cc
 
-pub pairs-ok-spec : {M : Type 1} → statement M
-pairs-ok-spec =
+pub pairs_ok_spec : {M : Type 1} → statement M
+pairs_ok_spec =
     tie.close
     (tie.spec
-    Inv-loop
-    μ-loop
+    invariant-loop
+    decreases-loop
     tally-requires
     loop-holds
     add-c

@@ -1,16 +1,16 @@
 -- Slots in use, with two for each STOLEN node.
-use borrow.Author.Needs.{needs}
-use Rattle·forms·proofs.proofs.room_ok.Statement.{statement}
-use Rattle·forms·proofs.proofs.room_ok.Tie as tie
+use borrow.Author.Rules.{rules}
+use Rattle.forms.proofs.room_ok.Statement.{statement}
+use Rattle.forms.proofs.room_ok.Tie as tie
 
-pub room-ok-spec : {M : Type 1} → statement M
-room-ok-spec =
+pub room_ok_spec : {M : Type 1} → statement M
+room_ok_spec =
     tie.close
     (tie.spec
     (λ c κs. tt)
-    (λ c. search needs)
-    (λ c. search needs)
-    (λ c. search needs)
-    (λ c. search needs)
-    (λ c. search needs)
-    (λ c. let k = c .before .before .before .load-in .ensures in cc (k .0, k .1)))
+    (λ c. search rules)
+    (λ c. search rules)
+    (λ c. search rules)
+    (λ c. search rules)
+    (λ c. search rules)
+    (λ c. let k = c.before.before.before.load-in.ensures in cc (k.0, k.1)))

@@ -1,64 +1,64 @@
 -- The invariant: the first i slots pass the test.
-use borrow.Author.Needs.{needs}
+use borrow.Author.Rules.{rules}
 use native.Mathlib.Omega.{arith}
-use mathlib.Core.Path.{_≡_}
-use Prim.Native.Nat.{_-_, _≤_}
-use Rattle·rules.specs.Limits.{maxNodes}
-use Rattle·rules.specs.WellFormed.{upTo, unusedRule}
-use Rattle·rules.proofs.Nodes.{at-next}
-use Rattle·forms·proofs.proofs.Laws.{upTo-none, upTo-more}
-use Rattle·forms·proofs.proofs.unused_ok.Statement.{statement}
-use Rattle·forms·proofs.proofs.unused_ok.Tie as tie
+use mathlib.Core.Path.{◌≡◌}
+use Prim.Native.Nat.{◌-◌, ◌≤◌}
+use Rattle.rules.specs.Limits.{max_nodes}
+use Rattle.rules.specs.WellFormed.{up_to, unused_rule}
+use Rattle.rules.proofs.Nodes.{at_next}
+use Rattle.forms.proofs.Laws.{up_to_none, up_to_more}
+use Rattle.forms.proofs.unused_ok.Statement.{statement}
+use Rattle.forms.proofs.unused_ok.Tie as tie
 
-abbrev Inv-loop : tie.InvT-loop
-Inv-loop l used ok₀ i₀ ok i = (i ≤ maxNodes) × (ok ≡ upTo (unusedRule l) i)
+abbrev invariant-loop : tie.invariant-loop
+invariant-loop l used ok₀ i₀ ok i = (i ≤ max_nodes) × (ok ≡ up_to (unused_rule l) i)
 
-abbrev μ-loop : tie.MeasureT-loop
-μ-loop l used ok₀ i₀ ok i = maxNodes - i
+abbrev decreases-loop : tie.decreases-loop
+decreases-loop l used ok₀ i₀ ok i = max_nodes - i
 
-loop-holds : tie.Need-loop-holds Inv-loop μ-loop
-loop-holds c = (search needs, upTo-none _)
+loop-holds : tie.Need-loop-init invariant-loop decreases-loop
+loop-holds c = (search rules, up_to_none _)
 
-cast-slot : tie.Need-cast-slot Inv-loop μ-loop
-cast-slot c = search needs
+cast-slot : tie.Need-overflow-cast-slot invariant-loop decreases-loop
+cast-slot c = search rules
 
-mul-x : tie.Need-mul-x Inv-loop μ-loop
-mul-x c = search needs
+mul-x : tie.Need-overflow-mul-x invariant-loop decreases-loop
+mul-x c = search rules
 
-element-copy-out-x : tie.Need-element-copy-out-x Inv-loop μ-loop
-element-copy-out-x c = search needs
+element-copy-out-x : tie.Need-element-copy-out-x invariant-loop decreases-loop
+element-copy-out-x c = search rules
 
-blank-ok-requires : tie.Need-blank-ok-requires Inv-loop μ-loop
-blank-ok-requires c κs = search needs
+blank-ok-requires : tie.Need-blank-ok-requires invariant-loop decreases-loop
+blank-ok-requires c κs = search rules
 
-add-ok : tie.Need-add-ok Inv-loop μ-loop
-add-ok c = search needs
+add_ok : tie.Need-overflow-add-ok invariant-loop decreases-loop
+add_ok c = search rules
 
-add-i : tie.Need-add-i Inv-loop μ-loop
-add-i c = search needs
+add-i : tie.Need-overflow-add-i invariant-loop decreases-loop
+add-i c = search rules
 
-loop-less : tie.Need-loop-less Inv-loop μ-loop
-loop-less c = search needs
+loop-less : tie.Need-loop-smaller invariant-loop decreases-loop
+loop-less c = search rules
 
-loop-again : tie.Need-loop-again Inv-loop μ-loop
-unfolding unusedRule
-loop-again c = (search needs, upTo-more _ _ (c .before .before .before .loop .inv .1) (rw (at-next (c .before .before .before .before .args .t1) (c .before .before .before .loop .i)) (cc)))
+loop-again : tie.Need-loop-preserved invariant-loop decreases-loop
+unfolding unused_rule
+loop-again c = (search rules, up_to_more _ _ c.before.before.before.loop.invariant.1 (rw (at_next c.before.before.before.before.args.t1 c.before.before.before.loop.i) (cc)))
 
-returns : tie.Need-returns Inv-loop μ-loop
-returns c = let e : c .before .loop .i ≡ maxNodes = omega arith in cc
+returns : tie.Need-returns invariant-loop decreases-loop
+returns c = let e : c.before.loop.i ≡ max_nodes = omega arith in cc
 
-pub unused-ok-spec : {M : Type 1} → statement M
-unused-ok-spec =
+pub unused_ok_spec : {M : Type 1} → statement M
+unused_ok_spec =
     tie.close
     (tie.spec
-    Inv-loop
-    μ-loop
+    invariant-loop
+    decreases-loop
     loop-holds
     cast-slot
     mul-x
     element-copy-out-x
     blank-ok-requires
-    add-ok
+    add_ok
     add-i
     loop-less
     loop-again

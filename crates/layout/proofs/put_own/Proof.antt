@@ -1,40 +1,40 @@
-use borrow.Author.Needs.{needs}
-use Rattle·layout·proofs.proofs.put_own.Statement.{statement}
-use Rattle·layout·proofs.proofs.put_own.Tie as tie
+use borrow.Author.Rules.{rules}
+use Rattle.layout.proofs.put_own.Statement.{statement}
+use Rattle.layout.proofs.put_own.Tie as tie
 
-mul-at : tie.Need-mul-at
-mul-at c = search needs
+mul_at : tie.Need-overflow-mul-at
+mul_at c = search rules
 
-add-at : tie.Need-add-at
-add-at c = search needs
+add_at : tie.Need-overflow-add-at
+add_at c = search rules
 
-add-put-finds : tie.Need-add-put-finds
-add-put-finds c = search needs
+add-put-finds : tie.Need-overflow-add-put-finds
+add-put-finds c = search rules
 
 put-finds-requires : tie.Need-put-finds-requires
-put-finds-requires c κs = search needs
+put-finds-requires c κs = search rules
 
-add-put-number : tie.Need-add-put-number
-add-put-number c = search needs
+add-put-number : tie.Need-overflow-add-put-number
+add-put-number c = search rules
 
 put-number-requires : tie.Need-put-number-requires
-put-number-requires c κs = search needs
+put-number-requires c κs = search rules
 
-same-length : tie.Need-same-length
-same-length c = search needs
+same_length : tie.Need-same-length
+same_length c = search rules
 
 returns : tie.Need-returns
 returns c = cc
 
-pub put-own-spec : {M : Type 1} → statement M
-put-own-spec =
+pub put_own_spec : {M : Type 1} → statement M
+put_own_spec =
     tie.close
     (tie.spec
-    mul-at
-    add-at
+    mul_at
+    add_at
     add-put-finds
     put-finds-requires
     add-put-number
     put-number-requires
-    same-length
+    same_length
     returns)

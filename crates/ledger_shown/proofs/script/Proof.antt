@@ -1,82 +1,82 @@
 -- There are no more lines than bytes, and a line ends within the script or at its end.
-use borrow.Author.Needs.{needs}
-use Prim.Native.Nat.{_+_, _-_, _≤_}
+use borrow.Author.Rules.{rules}
+use Prim.Native.Nat.{◌+◌, ◌-◌, ◌≤◌}
 use lib.ListN.{length}
-use Rattle·ledger_shown·proofs.proofs.script.Statement.{statement}
-use Rattle·ledger_shown·proofs.proofs.script.Tie as tie
+use Rattle.ledger_shown.proofs.script.Statement.{statement}
+use Rattle.ledger_shown.proofs.script.Tie as tie
 
-abbrev Inv-loop : tie.InvT-loop
-Inv-loop text l₀ kept₀ number₀ at₀ l kept number at = (number ≤ at) × (at ≤ length text + 1)
+abbrev invariant-loop : tie.invariant-loop
+invariant-loop text l₀ kept₀ number₀ at₀ l kept number at = (number ≤ at) × (at ≤ length text + 1)
 
-abbrev μ-loop : tie.MeasureT-loop
-μ-loop text l₀ kept₀ number₀ at₀ l kept number at = length text + 1 - at
+abbrev decreases-loop : tie.decreases-loop
+decreases-loop text l₀ kept₀ number₀ at₀ l kept number at = length text + 1 - at
 
-closed-requires : tie.Need-closed-requires Inv-loop μ-loop
-closed-requires c κs = search needs
+closed-requires : tie.Need-closed-requires invariant-loop decreases-loop
+closed-requires c κs = search rules
 
-loop-holds : tie.Need-loop-holds Inv-loop μ-loop
-loop-holds c = search needs
+loop-holds : tie.Need-loop-init invariant-loop decreases-loop
+loop-holds c = search rules
 
-find-requires : tie.Need-find-requires Inv-loop μ-loop
-find-requires c κs = search needs
+find-requires : tie.Need-find-requires invariant-loop decreases-loop
+find-requires c κs = search rules
 
-add-next : tie.Need-add-next Inv-loop μ-loop
-add-next c = search needs
+add-next : tie.Need-overflow-add-next invariant-loop decreases-loop
+add-next c = search rules
 
-sub-read-line : tie.Need-sub-read-line Inv-loop μ-loop
-sub-read-line c = search needs
+sub-read-line : tie.Need-overflow-sub-read-line invariant-loop decreases-loop
+sub-read-line c = search rules
 
-part-read-line-start : tie.Need-part-read-line-start Inv-loop μ-loop
-part-read-line-start c = search needs
+part-read-line-start : tie.Need-slice-bounds-read-line-start invariant-loop decreases-loop
+part-read-line-start c = search rules
 
-part-read-line-end : tie.Need-part-read-line-end Inv-loop μ-loop
-part-read-line-end c = search needs
+part-read-line-end : tie.Need-slice-bounds-read-line-end invariant-loop decreases-loop
+part-read-line-end c = search rules
 
-read-line-requires : tie.Need-read-line-requires Inv-loop μ-loop
-read-line-requires c κs = search needs
+read-line-requires : tie.Need-read-line-requires invariant-loop decreases-loop
+read-line-requires c κs = search rules
 
-word-of-requires : tie.Need-word-of-requires Inv-loop μ-loop
-word-of-requires c κs = search needs
+word-of-requires : tie.Need-word-of-requires invariant-loop decreases-loop
+word-of-requires c κs = search rules
 
-sub-text : tie.Need-sub-text Inv-loop μ-loop
-sub-text c = search needs
+sub-text : tie.Need-overflow-sub-text invariant-loop decreases-loop
+sub-text c = search rules
 
-part-text-start : tie.Need-part-text-start Inv-loop μ-loop
-part-text-start c = search needs
+part-text-start : tie.Need-slice-bounds-text-start invariant-loop decreases-loop
+part-text-start c = search rules
 
-part-text-end : tie.Need-part-text-end Inv-loop μ-loop
-part-text-end c = search needs
+part-text-end : tie.Need-slice-bounds-text-end invariant-loop decreases-loop
+part-text-end c = search rules
 
-text-requires : tie.Need-text-requires Inv-loop μ-loop
-text-requires c κs = search needs
+text-requires : tie.Need-text-requires invariant-loop decreases-loop
+text-requires c κs = search rules
 
-add-number : tie.Need-add-number Inv-loop μ-loop
-add-number c = search needs
+add-number : tie.Need-overflow-add-number invariant-loop decreases-loop
+add-number c = search rules
 
-kept-after-requires : tie.Need-kept-after-requires Inv-loop μ-loop
-kept-after-requires c κs = search needs
+kept-after-requires : tie.Need-kept-after-requires invariant-loop decreases-loop
+kept-after-requires c κs = search rules
 
-turn-requires : tie.Need-turn-requires Inv-loop μ-loop
-turn-requires c κs = search needs
+turn-requires : tie.Need-turn-requires invariant-loop decreases-loop
+turn-requires c κs = search rules
 
-word-requires : tie.Need-word-requires Inv-loop μ-loop
-word-requires c κs = search needs
+word-requires : tie.Need-word-requires invariant-loop decreases-loop
+word-requires c κs = search rules
 
-loop-less : tie.Need-loop-less Inv-loop μ-loop
-loop-less c = search needs
+loop-less : tie.Need-loop-smaller invariant-loop decreases-loop
+loop-less c = search rules
 
-loop-again : tie.Need-loop-again Inv-loop μ-loop
-loop-again c = search needs
+loop-again : tie.Need-loop-preserved invariant-loop decreases-loop
+loop-again c = search rules
 
-returns : tie.Need-returns Inv-loop μ-loop
-returns c = search needs
+returns : tie.Need-returns invariant-loop decreases-loop
+returns c = search rules
 
-pub script-spec : {M : Type 1} → statement M
-script-spec =
+pub script_spec : {M : Type 1} → statement M
+script_spec =
     tie.close
     (tie.spec
-    Inv-loop
-    μ-loop
+    invariant-loop
+    decreases-loop
     closed-requires
     loop-holds
     find-requires

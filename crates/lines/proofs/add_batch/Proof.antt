@@ -1,74 +1,74 @@
 -- The word batch is put and what comes after it, where there is room.
-use mathlib.Core.List.{List, [], _∷_, _++_}
-use Prim.Native.Nat.{ℕ, _+_, _≤_}
-use borrow.Author.Needs.{needs}
+use mathlib.Core.List.{List, [], ◌∷◌, ◌++◌}
+use Prim.Native.Nat.{ℕ, ◌+◌, ◌≤◌}
+use borrow.Author.Rules.{rules}
 use lib.IntN.{pos}
 use lib.ListN.{length}
-use Rattle·line_rules.specs.Words.{batchWord}
-use Rattle·line_rules.specs.Line.{batchLine, text}
-use Rattle·lines·specs.specs.Fields.{ending}
-use Rattle·digits.proofs.Area.{first-room, second-room, both-put}
-use Rattle·lines·proofs.proofs.Ending.{line-is, line-size}
-use Rattle·lines·proofs.proofs.Added.{add-room, add-line, add-none}
-use Rattle·lines·proofs.proofs.add_batch.Statement.{statement}
-use Rattle·lines·proofs.proofs.add_batch.Tie as tie
+use Rattle.line_rules.specs.Words.{batch_word}
+use Rattle.line_rules.specs.Line.{batch_line, text}
+use Rattle.lines.specs.Fields.{ending}
+use Rattle.digits.proofs.Area.{first_room, second_room, both_put}
+use Rattle.lines.proofs.Ending.{line_is, line_size}
+use Rattle.lines.proofs.Added.{add_room, add_line, add_none}
+use Rattle.lines.proofs.add_batch.Statement.{statement}
+use Rattle.lines.proofs.add_batch.Tie as tie
 
 slice-aggregate-fits : tie.Need-slice-aggregate-fits
-slice-aggregate-fits c = search needs
+slice-aggregate-fits c = search rules
 
 fits-requires : tie.Need-fits-requires
-fits-requires c κs = search needs
+fits-requires c κs = search rules
 
 slice-aggregate-put : tie.Need-slice-aggregate-put
-slice-aggregate-put c = search needs
+slice-aggregate-put c = search rules
 
 abbrev line : tie.Start → List ℕ
-line s = text (batchLine (pos (s .args .team)) (pos (s .args .node)) (pos (s .args .«from»)) (pos (s .args .to)))
+line s = text (batch_line (pos s.args.team) (pos s.args.node) (pos s.args.«from») (pos s.args.to))
 
 abbrev tail : tie.Start → List ℕ
-tail s = ending (s .args .team ∷ s .args .node ∷ s .args .«from» ∷ s .args .to ∷ [])
+tail s = ending (s.args.team ∷ s.args.node ∷ s.args.«from» ∷ s.args.to ∷ [])
 
 -- the test passed
 abbrev Passed : Type 0
 Passed = tie.After-put-arg2
 
 abbrev from : Passed → tie.Start
-from c = c .before .before .before .before .before .before
+from c = c.before.before.before.before.before.before
 
-room : (c : Passed) → from c .args .at + length (batchWord ++ tail (from c)) ≤ length (from c .args .area .now)
+room : (c : Passed) → (from c).args.at + length (batch_word ++ tail (from c)) ≤ length (from c).args.area.now
 room c =
     let s = from c in
-    add-room (line s) batchWord (tail s) (s .args .area .now) (s .args .at) _ (line-is batchWord (s .args .team ∷ s .args .node ∷ s .args .«from» ∷ s .args .to ∷ [])) (line-size batchWord (s .args .team ∷ s .args .node ∷ s .args .«from» ∷ s .args .to ∷ [])) (c .before .before .before .fits2 .ensures) (c .before .before .if1 .taken)
+    add_room (line s) batch_word (tail s) s.args.area.now s.args.at _ (line_is batch_word (s.args.team ∷ s.args.node ∷ s.args.«from» ∷ s.args.to ∷ [])) (line_size batch_word (s.args.team ∷ s.args.node ∷ s.args.«from» ∷ s.args.to ∷ [])) c.before.before.before.fits2.ensures c.before.before.if1.true
 
 put-requires : tie.Need-put-requires
-put-requires c κs = let s = from c in first-room (s .args .area .now) (s .args .at) batchWord (tail s) (room c)
+put-requires c κs = let s = from c in first_room s.args.area.now s.args.at batch_word (tail s) (room c)
 
 end-four-requires : tie.Need-end-four-requires
 end-four-requires c κs =
-    let p = c .before .before .before .before in
+    let p = c.before.before.before.before in
     let s = from p in
-    second-room (s .args .area .now) (s .args .at) batchWord (tail s) (room p) (c .before .before .before .put .ensures)
+    second_room s.args.area.now s.args.at batch_word (tail s) (room p) c.before.before.before.put.ensures
 
-same-length : tie.Need-same-length
-same-length c = search needs
+same_length : tie.Need-same-length
+same_length c = search rules
 
 returns : tie.Need-returns
 returns c =
-    let p = c .before .before .before .before .before .before .before in
+    let p = c.before.before.before.before.before.before.before in
     let s = from p in
     let e =
-    add-line (line s) batchWord (tail s) (s .args .area .now) (s .args .at) _ (line-is batchWord (s .args .team ∷ s .args .node ∷ s .args .«from» ∷ s .args .to ∷ [])) (line-size batchWord (s .args .team ∷ s .args .node ∷ s .args .«from» ∷ s .args .to ∷ [])) (p .before .before .before .fits2 .ensures) (p .before .before .if1 .taken)
-    (both-put (s .args .area .now) (s .args .at) batchWord (tail s) (room p) (c .before .before .before .before .before .before .put .ensures) (c .before .before .end-four .ensures)) in
-    (e .place, e .bytes)
+    add_line (line s) batch_word (tail s) s.args.area.now s.args.at _ (line_is batch_word (s.args.team ∷ s.args.node ∷ s.args.«from» ∷ s.args.to ∷ [])) (line_size batch_word (s.args.team ∷ s.args.node ∷ s.args.«from» ∷ s.args.to ∷ [])) p.before.before.before.fits2.ensures p.before.before.if1.true
+    (both_put s.args.area.now s.args.at batch_word (tail s) (room p) c.before.before.before.before.before.before.put.ensures c.before.before.end-four.ensures) in
+    (e.place, e.bytes)
 
 returns-2 : tie.Need-returns-2
 returns-2 c =
-    let s = c .before .before .before .before in
-    let e = add-none (line s) batchWord (tail s) (s .args .area .now) (s .args .at) _ (line-is batchWord (s .args .team ∷ s .args .node ∷ s .args .«from» ∷ s .args .to ∷ [])) (line-size batchWord (s .args .team ∷ s .args .node ∷ s .args .«from» ∷ s .args .to ∷ [])) (c .before .fits2 .ensures) (c .if1 .left) in
-    (e .place, e .bytes)
+    let s = c.before.before.before.before in
+    let e = add_none (line s) batch_word (tail s) s.args.area.now s.args.at _ (line_is batch_word (s.args.team ∷ s.args.node ∷ s.args.«from» ∷ s.args.to ∷ [])) (line_size batch_word (s.args.team ∷ s.args.node ∷ s.args.«from» ∷ s.args.to ∷ [])) c.before.fits2.ensures c.if1.false in
+    (e.place, e.bytes)
 
-pub add-batch-spec : {M : Type 1} → statement M
-add-batch-spec =
+pub add_batch_spec : {M : Type 1} → statement M
+add_batch_spec =
     tie.close
     (tie.spec
     slice-aggregate-fits
@@ -76,6 +76,6 @@ add-batch-spec =
     slice-aggregate-put
     put-requires
     end-four-requires
-    same-length
+    same_length
     returns
     returns-2)

@@ -1,60 +1,60 @@
 -- The numbers are tested, and the open line is added at the start of the area.
-use borrow.Author.Needs.{needs}
-use Rattle·numbers.proofs.Signed.{held}
-use Rattle·line_rules.specs.Line.{openLine, spaced, whole, anyNegative}
-use Rattle·lines·proofs.proofs.Added.{answers-negative, answers}
-use Rattle·lines·proofs.proofs.open_line.Statement.{statement}
-use Rattle·lines·proofs.proofs.open_line.Tie as tie
+use borrow.Author.Rules.{rules}
+use Rattle.numbers.proofs.Signed.{held}
+use Rattle.line_rules.specs.Line.{open_line, spaced, whole, any_negative}
+use Rattle.lines.proofs.Added.{answers_negative, answers}
+use Rattle.lines.proofs.open_line.Statement.{statement}
+use Rattle.lines.proofs.open_line.Tie as tie
 
 any-negative-requires : tie.Need-any-negative-requires
-any-negative-requires c κs = search needs
+any-negative-requires c κs = search rules
 
 refuse-requires : tie.Need-refuse-requires
-refuse-requires c κs = search needs
+refuse-requires c κs = search rules
 
 returns : tie.Need-returns
-unfolding anyNegative
+unfolding any_negative
 returns c =
-    let s = c .before .before .before .before in
-    let n = simp (held _ (s .fits .start), held _ (s .fits .until), held _ (s .fits .teams), held _ (s .fits .cap), held _ (s .fits .nodes)) at (c .before .before .any-negative .ensures) in
-    let a = answers-negative (openLine (s .args .start) (s .args .until) (s .args .teams) (s .args .cap) (s .args .nodes)) (s .args .area .now) (rw n at (c .before .if1 .taken)) (c .refuse .ensures) in
-    (a .answered, a .left)
+    let s = c.before.before.before.before in
+    let n = simp (held _ s.ranges.start, held _ s.ranges.until, held _ s.ranges.teams, held _ s.ranges.cap, held _ s.ranges.nodes) at c.before.before.any-negative.ensures in
+    let a = answers_negative (open_line s.args.start s.args.until s.args.teams s.args.cap s.args.nodes) s.args.area.now (rw n at c.before.if1.true) c.refuse.ensures in
+    (a.answered, a.left)
 
 wide-requires : tie.Need-wide-requires
-wide-requires c κs = search needs
+wide-requires c κs = search rules
 
 wide-requires-2 : tie.Need-wide-requires-2
-wide-requires-2 c κs = search needs
+wide-requires-2 c κs = search rules
 
 wide-requires-3 : tie.Need-wide-requires-3
-wide-requires-3 c κs = search needs
+wide-requires-3 c κs = search rules
 
 wide-requires-4 : tie.Need-wide-requires-4
-wide-requires-4 c κs = search needs
+wide-requires-4 c κs = search rules
 
 wide-requires-5 : tie.Need-wide-requires-5
-wide-requires-5 c κs = search needs
+wide-requires-5 c κs = search rules
 
 add-open-requires : tie.Need-add-open-requires
-add-open-requires c κs = search needs
+add-open-requires c κs = search rules
 
 ended-requires : tie.Need-ended-requires
-ended-requires c κs = search needs
+ended-requires c κs = search rules
 
-same-length : tie.Need-same-length
-same-length c = search needs
+same_length : tie.Need-same-length
+same_length c = search rules
 
 returns-2 : tie.Need-returns-2
-unfolding anyNegative whole spaced
+unfolding any_negative whole spaced
 returns-2 c =
-    let s = c .before .before .before .before .before .before .before .before .before .before .before .before .before in
-    let n = simp (held _ (s .fits .start), held _ (s .fits .until), held _ (s .fits .teams), held _ (s .fits .cap), held _ (s .fits .nodes)) at (c .before .before .before .before .before .before .before .before .before .before .before .any-negative .ensures) in
-    let e = rw (c .before .before .before .before .before .before .before .before .wide .ensures, c .before .before .before .before .before .before .before .wide2 .ensures, c .before .before .before .before .before .before .wide3 .ensures, c .before .before .before .before .before .wide4 .ensures, c .before .before .before .before .wide5 .ensures, held _ (s .fits .start), held _ (s .fits .until), held _ (s .fits .teams), held _ (s .fits .cap), held _ (s .fits .nodes)) at (c .before .before .before .add-open .ensures) in
-    let a = answers (openLine (s .args .start) (s .args .until) (s .args .teams) (s .args .cap) (s .args .nodes)) (s .args .area .now) (rw n at (c .before .before .before .before .before .before .before .before .before .before .if1 .left)) (e .0) (e .1) (c .ended .ensures) in
-    (a .answered, a .left)
+    let s = c.before.before.before.before.before.before.before.before.before.before.before.before.before in
+    let n = simp (held _ s.ranges.start, held _ s.ranges.until, held _ s.ranges.teams, held _ s.ranges.cap, held _ s.ranges.nodes) at c.before.before.before.before.before.before.before.before.before.before.before.any-negative.ensures in
+    let e = rw (c.before.before.before.before.before.before.before.before.wide.ensures, c.before.before.before.before.before.before.before.wide2.ensures, c.before.before.before.before.before.before.wide3.ensures, c.before.before.before.before.before.wide4.ensures, c.before.before.before.before.wide5.ensures, held _ s.ranges.start, held _ s.ranges.until, held _ s.ranges.teams, held _ s.ranges.cap, held _ s.ranges.nodes) at c.before.before.before.add_open.ensures in
+    let a = answers (open_line s.args.start s.args.until s.args.teams s.args.cap s.args.nodes) s.args.area.now (rw n at c.before.before.before.before.before.before.before.before.before.before.if1.false) e.0 e.1 c.ended.ensures in
+    (a.answered, a.left)
 
-pub open-line-spec : {M : Type 1} → statement M
-open-line-spec =
+pub open_line_spec : {M : Type 1} → statement M
+open_line_spec =
     tie.close
     (tie.spec
     any-negative-requires
@@ -67,5 +67,5 @@ open-line-spec =
     wide-requires-5
     add-open-requires
     ended-requires
-    same-length
+    same_length
     returns-2)

@@ -1,10 +1,10 @@
 -- The progress becomes the position, as far as 32 bits hold it.
-use Rattle·numbers.proofs.Signed.{told}
-use Rattle·nodes·proofs.proofs.advanced_to.Statement.{statement}
-use Rattle·nodes·proofs.proofs.advanced_to.Tie as tie
+use Rattle.numbers.proofs.Signed.{told}
+use Rattle.nodes.proofs.advanced_to.Statement.{statement}
+use Rattle.nodes.proofs.advanced_to.Tie as tie
 
-pub advanced-to-spec : {M : Type 1} → statement M
-advanced-to-spec = tie.close (tie.spec
+pub advanced_to_spec : {M : Type 1} → statement M
+advanced_to_spec = tie.close (tie.spec
     (λ c κs. tt)
     (λ c κs. tt)
-    (λ c. cc (told (c .before .to-signed .result) (c .before .to-signed .ok))))
+    (λ c. cc (told c.before.to-signed.result c.before.to-signed.type-inv)))

@@ -1,11 +1,11 @@
 -- COMPLETED, or marked.
-use Rattle·rules.specs.States.{ended}
-use Rattle·nodes·proofs.proofs.is_ended.Statement.{statement}
-use Rattle·nodes·proofs.proofs.is_ended.Tie as tie
+use Rattle.rules.specs.States.{ended}
+use Rattle.nodes.proofs.is_ended.Statement.{statement}
+use Rattle.nodes.proofs.is_ended.Tie as tie
 
-pub is-ended-spec : {M : Type 1} → statement M
+pub is_ended_spec : {M : Type 1} → statement M
 unfolding ended
-is-ended-spec =
+is_ended_spec =
     tie.close
     (tie.spec
     (λ c κs. tt)

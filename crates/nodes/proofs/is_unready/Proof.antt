@@ -1,11 +1,11 @@
 -- Not COMPLETED, and without two pushed children.
-use Rattle·rules.specs.States.{unready}
-use Rattle·nodes·proofs.proofs.is_unready.Statement.{statement}
-use Rattle·nodes·proofs.proofs.is_unready.Tie as tie
+use Rattle.rules.specs.States.{unready}
+use Rattle.nodes.proofs.is_unready.Statement.{statement}
+use Rattle.nodes.proofs.is_unready.Tie as tie
 
-pub is-unready-spec : {M : Type 1} → statement M
+pub is_unready_spec : {M : Type 1} → statement M
 unfolding unready
-is-unready-spec =
+is_unready_spec =
     tie.close
     (tie.spec
     (λ c κs. tt)

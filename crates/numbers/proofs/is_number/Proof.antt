@@ -1,16 +1,16 @@
 -- A negative number is no number n; any other is compared as it is.
-use Rattle·numbers·proofs.proofs.Signed.{neg-is, nat-is, nat-cast, nat-gives}
-use Rattle·numbers·proofs.proofs.is_number.Statement.{statement}
-use Rattle·numbers·proofs.proofs.is_number.Tie as tie
+use Rattle.numbers.proofs.Signed.{neg_is, nat_is, nat_cast, nat_gives}
+use Rattle.numbers.proofs.is_number.Statement.{statement}
+use Rattle.numbers.proofs.is_number.Tie as tie
 
 returns : tie.Need-returns
-returns c = rw (neg-is _ (c .before .fits .p) (c .if1 .taken))
+returns c = rw (neg_is _ c.before.ranges.p c.if1.true)
 
-cast-result : tie.Need-cast-result
-cast-result c = nat-cast (c .before .args .p) (c .before .fits .p) (c .if1 .left)
+cast-result : tie.Need-overflow-cast-result
+cast-result c = nat_cast c.before.args.p c.before.ranges.p c.if1.false
 
 returns-2 : tie.Need-returns-2
-returns-2 c = rw (nat-gives _ (c .before .fits .p) (c .if1 .left), nat-is _ (c .before .fits .p) (c .if1 .left))
+returns-2 c = rw (nat_gives _ c.before.ranges.p c.if1.false, nat_is _ c.before.ranges.p c.if1.false)
 
-pub is-number-spec : {M : Type 1} → statement M
-is-number-spec = tie.close (tie.spec returns cast-result returns-2)
+pub is_number_spec : {M : Type 1} → statement M
+is_number_spec = tie.close (tie.spec returns cast-result returns-2)

@@ -1,10 +1,10 @@
 -- Equal bits are equal numbers.
-use Rattle·numbers·proofs.proofs.Signed.{same-bits}
-use Rattle·numbers·proofs.proofs.same_number.Statement.{statement}
-use Rattle·numbers·proofs.proofs.same_number.Tie as tie
+use Rattle.numbers.proofs.Signed.{same_bits}
+use Rattle.numbers.proofs.same_number.Statement.{statement}
+use Rattle.numbers.proofs.same_number.Tie as tie
 
 returns : tie.Need-returns
-returns c = same-bits (c .args .a) (c .args .b) (c .fits .a) (c .fits .b)
+returns c = same_bits c.args.a c.args.b c.ranges.a c.ranges.b
 
-pub same-number-spec : {M : Type 1} → statement M
-same-number-spec = tie.close (tie.spec returns)
+pub same_number_spec : {M : Type 1} → statement M
+same_number_spec = tie.close (tie.spec returns)

@@ -1,60 +1,60 @@
-use borrow.Author.Needs.{needs}
+use borrow.Author.Rules.{rules}
 use native.Mathlib.Omega.{arith}
-use mathlib.Core.Path.{_≡_, ap, _∙_}
-use Prim.Native.Nat.{_-_, _≤_}
-use Rattle·rules.specs.Nodes.{isBlank}
-use Rattle·rules.specs.WellFormed.{upTo, unusedRule}
-use Rattle·layout.specs.Areas.{decoded}
-use Rattle·office_forms·proofs.proofs.Table.{blank-none, blank-more, blank-all}
-use Rattle·office_forms·proofs.proofs.blanks_ok.Statement.{statement}
-use Rattle·office_forms·proofs.proofs.blanks_ok.Tie as tie
+use mathlib.Core.Path.{◌≡◌, ap, ◌∙◌}
+use Prim.Native.Nat.{◌-◌, ◌≤◌}
+use Rattle.rules.specs.Nodes.{is_blank}
+use Rattle.rules.specs.WellFormed.{up_to, unused_rule}
+use Rattle.layout.specs.Areas.{decoded}
+use Rattle.office_forms.proofs.Table.{blank_none, blank_more, blank_all}
+use Rattle.office_forms.proofs.blanks_ok.Statement.{statement}
+use Rattle.office_forms.proofs.blanks_ok.Tie as tie
 
-abbrev Inv-loop : tie.InvT-loop
-Inv-loop bytes teams room used ok₀ i₀ ok i = (i ≤ room) × (used ≤ i) × (ok ≡ upTo (unusedRule (decoded bytes)) i)
+abbrev invariant-loop : tie.invariant-loop
+invariant-loop bytes teams room used ok₀ i₀ ok i = (i ≤ room) × (used ≤ i) × (ok ≡ up_to (unused_rule (decoded bytes)) i)
 
-abbrev μ-loop : tie.MeasureT-loop
-μ-loop bytes teams room used ok₀ i₀ ok i = room - i
+abbrev decreases-loop : tie.decreases-loop
+decreases-loop bytes teams room used ok₀ i₀ ok i = room - i
 
-loop-holds : tie.Need-loop-holds Inv-loop μ-loop
+loop-holds : tie.Need-loop-init invariant-loop decreases-loop
 loop-holds c =
-    let s = c .before in
-    (search needs, search needs, blank-none (s .args .bytes .now) (s .args .teams) (s .args .room) (s .args .used) (s .pre))
+    let s = c.before in
+    (search rules, search rules, blank_none s.args.bytes.now s.args.teams s.args.room s.args.used s.requires)
 
-cast-slot : tie.Need-cast-slot Inv-loop μ-loop
-cast-slot c = search needs
+cast-slot : tie.Need-overflow-cast-slot invariant-loop decreases-loop
+cast-slot c = search rules
 
-slot-in-requires : tie.Need-slot-in-requires Inv-loop μ-loop
-slot-in-requires c κs = search needs
+slot-in-requires : tie.Need-slot-in-requires invariant-loop decreases-loop
+slot-in-requires c κs = search rules
 
-blank-ok-requires : tie.Need-blank-ok-requires Inv-loop μ-loop
-blank-ok-requires c κs = search needs
+blank-ok-requires : tie.Need-blank-ok-requires invariant-loop decreases-loop
+blank-ok-requires c κs = search rules
 
-add-i : tie.Need-add-i Inv-loop μ-loop
-add-i c = search needs
+add-i : tie.Need-overflow-add-i invariant-loop decreases-loop
+add-i c = search rules
 
-loop-less : tie.Need-loop-less Inv-loop μ-loop
-loop-less c = search needs
+loop-less : tie.Need-loop-smaller invariant-loop decreases-loop
+loop-less c = search rules
 
-loop-again : tie.Need-loop-again Inv-loop μ-loop
+loop-again : tie.Need-loop-preserved invariant-loop decreases-loop
 loop-again c =
-    let s = c .before .before .before .before .before in
-    let loop = c .before .before .before .loop in
-    let none = c .blank-ok .ensures ∙ ap isBlank (c .before .slot-in .ensures) in
-    (search needs, search needs, blank-more (s .args .bytes .now) (s .args .teams) (s .args .room) (s .args .used) (s .pre) (loop .i) (loop .inv .1) (search needs) (loop .inv .2) none)
+    let s = c.before.before.before.before.before in
+    let loop = c.before.before.before.loop in
+    let none = c.blank_ok.ensures ∙ ap is_blank c.before.slot-in.ensures in
+    (search rules, search rules, blank_more s.args.bytes.now s.args.teams s.args.room s.args.used s.requires loop.i loop.invariant.1 (search rules) loop.invariant.2 none)
 
-returns : tie.Need-returns Inv-loop μ-loop
+returns : tie.Need-returns invariant-loop decreases-loop
 returns c =
-    let s = c .before .before .before in
-    let loop = c .before .loop in
-    let e : loop .i ≡ s .args .room = omega arith in
-    loop .inv .2 ∙ (ap (upTo (unusedRule (decoded (s .args .bytes .now)))) e ∙ blank-all (s .args .bytes .now) (s .args .teams) (s .args .room) (s .args .used) (s .pre))
+    let s = c.before.before.before in
+    let loop = c.before.loop in
+    let e : loop.i ≡ s.args.room = omega arith in
+    loop.invariant.2 ∙ (ap (up_to (unused_rule (decoded s.args.bytes.now))) e ∙ blank_all s.args.bytes.now s.args.teams s.args.room s.args.used s.requires)
 
-pub blanks-ok-spec : {M : Type 1} → statement M
-blanks-ok-spec =
+pub blanks_ok_spec : {M : Type 1} → statement M
+blanks_ok_spec =
     tie.close
     (tie.spec
-    Inv-loop
-    μ-loop
+    invariant-loop
+    decreases-loop
     loop-holds
     cast-slot
     slot-in-requires

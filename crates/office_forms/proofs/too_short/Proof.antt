@@ -1,44 +1,44 @@
 use mathlib.Core.Bool.{and-false, false-and}
 use borrow.Author.Tests.{lt-ltb, le-ltb, lt-leb, le-leb}
-use Rattle·layout.specs.Areas.{tooShort}
-use borrow.Author.Needs.{needs}
-use Rattle·office_forms·proofs.proofs.too_short.Statement.{statement}
-use Rattle·office_forms·proofs.proofs.too_short.Tie as tie
+use Rattle.layout.specs.Areas.{too_short}
+use borrow.Author.Rules.{rules}
+use Rattle.office_forms.proofs.too_short.Statement.{statement}
+use Rattle.office_forms.proofs.too_short.Tie as tie
 
 returns : tie.Need-returns
-unfolding tooShort
-returns c = simp (lt-ltb _ _ (c .if1 .taken))
+unfolding too_short
+returns c = simp (lt-ltb _ _ c.if1.true)
 
 number-at-requires : tie.Need-number-at-requires
-number-at-requires c κs = search needs
+number-at-requires c κs = search rules
 
 returns-2 : tie.Need-returns-2
-unfolding tooShort
-returns-2 c = simp (le-ltb _ _ (c .before .before .if1 .left), ← c .before .number-at .ensures, lt-leb _ _ (c .if2 .taken))
+unfolding too_short
+returns-2 c = simp (le-ltb _ _ c.before.before.if1.false, ← c.before.number_at.ensures, lt-leb _ _ c.if2.true)
 
 returns-3 : tie.Need-returns-3
-unfolding tooShort
+unfolding too_short
 returns-3 c =
     simp
-    (le-ltb _ _ (c .before .before .before .if1 .left), ← c .before .before .number-at .ensures, lt-leb _ _ (c .if3 .taken), and-false, false-and)
+    (le-ltb _ _ c.before.before.before.if1.false, ← c.before.before.number_at.ensures, lt-leb _ _ c.if3.true, and-false, false-and)
 
-cast-result : tie.Need-cast-result
-cast-result c = search needs
+cast-result : tie.Need-overflow-cast-result
+cast-result c = search rules
 
-mul-result : tie.Need-mul-result
-mul-result c = search needs
+mul-result : tie.Need-overflow-mul-result
+mul-result c = search rules
 
-add-result : tie.Need-add-result
-add-result c = search needs
+add-result : tie.Need-overflow-add-result
+add-result c = search rules
 
 returns-4 : tie.Need-returns-4
-unfolding tooShort
+unfolding too_short
 returns-4 c =
     simp
-    (le-ltb _ _ (c .before .before .before .if1 .left), ← c .before .before .number-at .ensures, le-leb _ _ (c .if3 .left), le-leb _ _ (c .before .if2 .left))
+    (le-ltb _ _ c.before.before.before.if1.false, ← c.before.before.number_at.ensures, le-leb _ _ c.if3.false, le-leb _ _ c.before.if2.false)
 
-pub too-short-spec : {M : Type 1} → statement M
-too-short-spec =
+pub too_short_spec : {M : Type 1} → statement M
+too_short_spec =
     tie.close
     (tie.spec
     returns

@@ -1,48 +1,48 @@
 use native.Mathlib.Omega.{arith}
-use mathlib.Core.Path.{_∙_}
-use mir.Facts.{toZ-ofZ}
-use Rattle·office_forms.proofs.Held.{held}
-use Rattle·office_stores·proofs.proofs.Laws.{advanced-area}
-use borrow.Author.Needs.{needs}
-use Rattle·office_stores·proofs.proofs.advance.Statement.{statement}
-use Rattle·office_stores·proofs.proofs.advance.Tie as tie
+use mathlib.Core.Path.{◌∙◌}
+use mir.Facts.{to_z-of_z}
+use Rattle.office_forms.proofs.Held.{held}
+use Rattle.office_stores.proofs.Laws.{advanced_area}
+use borrow.Author.Rules.{rules}
+use Rattle.office_stores.proofs.advance.Statement.{statement}
+use Rattle.office_stores.proofs.advance.Tie as tie
 
 to-signed-requires : tie.Need-to-signed-requires
-to-signed-requires c κs = search needs
+to-signed-requires c κs = search rules
 
-sub-put-progress : tie.Need-sub-put-progress
-sub-put-progress c = search needs
+sub-put-progress : tie.Need-overflow-sub-put-progress
+sub-put-progress c = search rules
 
-cast-put-progress : tie.Need-cast-put-progress
-cast-put-progress c = search needs
+cast-put-progress : tie.Need-overflow-cast-put-progress
+cast-put-progress c = search rules
 
 put-progress-requires : tie.Need-put-progress-requires
 put-progress-requires c κs =
-    let s = c .before .before .before in
-    let t = held (s .args .bytes .now) (s .pre .0) in
-    let r = s .pre .1 in
-    omega (arith, t .long, r .0 .0, r .0 .1)
+    let s = c.before.before.before in
+    let t = held s.args.bytes.now s.requires.0 in
+    let r = s.requires.1 in
+    omega (arith, t.long, r.0.0, r.0.1)
 
-same-length : tie.Need-same-length
-same-length c = search needs
+same_length : tie.Need-same-length
+same_length c = search rules
 
 returns : tie.Need-returns
 returns c =
-    let done = c .before .before in
-    let read = done .before .before in
-    let known = read .before in
-    let s = known .before in
-    let is = toZ-ofZ (record { sfits = read .to-signed .ok }) ∙ read .to-signed .ensures in
-    done .put-progress .ensures
-    ∙ advanced-area (s .args .bytes .now) (s .pre .0) (λ i. known .slice-known .given i .fits) (s .args .n) (s .pre .1 .0) (s .args .p) _ (s .pre .1 .1) is
+    let done = c.before.before in
+    let read = done.before.before in
+    let known = read.before in
+    let s = known.before in
+    let is = to_z-of_z (record { sfits = read.to-signed.type-inv }) ∙ read.to-signed.ensures in
+    done.put-progress.ensures
+    ∙ advanced_area s.args.bytes.now s.requires.0 (λ i. (known.slice-known.given i).fits) s.args.n s.requires.1.0 s.args.p _ s.requires.1.1 is
 
-pub advance-spec : {M : Type 1} → statement M
-advance-spec =
+pub advance_spec : {M : Type 1} → statement M
+advance_spec =
     tie.close
     (tie.spec
     to-signed-requires
     sub-put-progress
     cast-put-progress
     put-progress-requires
-    same-length
+    same_length
     returns)

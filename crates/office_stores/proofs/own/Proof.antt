@@ -1,34 +1,34 @@
 use native.Mathlib.Omega.{arith}
-use mathlib.Core.Path.{_∙_}
-use Rattle·office_forms.proofs.Held.{held}
-use Rattle·office_stores·proofs.proofs.Laws.{owned-area}
-use borrow.Author.Needs.{needs}
-use Rattle·office_stores·proofs.proofs.own.Statement.{statement}
-use Rattle·office_stores·proofs.proofs.own.Tie as tie
+use mathlib.Core.Path.{◌∙◌}
+use Rattle.office_forms.proofs.Held.{held}
+use Rattle.office_stores.proofs.Laws.{owned_area}
+use borrow.Author.Rules.{rules}
+use Rattle.office_stores.proofs.own.Statement.{statement}
+use Rattle.office_stores.proofs.own.Tie as tie
 
-sub-put-owner : tie.Need-sub-put-owner
-sub-put-owner c = search needs
+sub-put-owner : tie.Need-overflow-sub-put-owner
+sub-put-owner c = search rules
 
-cast-put-owner : tie.Need-cast-put-owner
-cast-put-owner c = search needs
+cast-put-owner : tie.Need-overflow-cast-put-owner
+cast-put-owner c = search rules
 
 put-owner-requires : tie.Need-put-owner-requires
 put-owner-requires c κs =
-    let s = c .before .before in
-    let t = held (s .args .bytes .now) (s .pre .0) in
-    let r = s .pre .1 in
-    omega (arith, t .long, r .0, r .1)
+    let s = c.before.before in
+    let t = held s.args.bytes.now s.requires.0 in
+    let r = s.requires.1 in
+    omega (arith, t.long, r.0, r.1)
 
-same-length : tie.Need-same-length
-same-length c = search needs
+same_length : tie.Need-same-length
+same_length c = search rules
 
 returns : tie.Need-returns
 returns c =
-    let done = c .before .before in
-    let known = done .before .before in
-    let s = known .before in
-    done .put-owner .ensures
-    ∙ owned-area (s .args .bytes .now) (s .pre .0) (λ i. known .slice-known .given i .fits) (s .args .n) (s .pre .1) (s .args .team)
+    let done = c.before.before in
+    let known = done.before.before in
+    let s = known.before in
+    done.put-owner.ensures
+    ∙ owned_area s.args.bytes.now s.requires.0 (λ i. (known.slice-known.given i).fits) s.args.n s.requires.1 s.args.team
 
-pub own-spec : {M : Type 1} → statement M
-own-spec = tie.close (tie.spec sub-put-owner cast-put-owner put-owner-requires same-length returns)
+pub own_spec : {M : Type 1} → statement M
+own_spec = tie.close (tie.spec sub-put-owner cast-put-owner put-owner-requires same_length returns)

@@ -1,75 +1,75 @@
-use borrow.Author.Needs.{needs}
+use borrow.Author.Rules.{rules}
 use native.Mathlib.Omega.{arith}
-use mathlib.Core.Path.{_≡_, sym, ap, _∙_}
-use Prim.Native.Nat.{ℕ, _-_, _*_, _≤_, _<_}
+use mathlib.Core.Path.{◌≡◌, sym, ap, ◌∙◌}
+use Prim.Native.Nat.{ℕ, ◌-◌, ◌*◌, ◌≤◌, ◌<◌}
 use lib.ListN.{take}
-use Rattle·rules.specs.Count.{restOf}
-use Rattle·rules.specs.Table.{sumBy}
-use Rattle·rules.proofs.Sums.{sumBy-none}
-use Rattle·layout.specs.Areas.{decoded}
-use Rattle·office_forms.proofs.Held.{held}
-use Rattle·office_views·proofs.proofs.Laws.{rest-all, rest-more}
-use Rattle·office_views·proofs.proofs.unclaimed_in.Statement.{statement}
-use Rattle·office_views·proofs.proofs.unclaimed_in.Tie as tie
+use Rattle.rules.specs.Count.{rest_of}
+use Rattle.rules.specs.Table.{sum_by}
+use Rattle.rules.proofs.Sums.{sum_by_none}
+use Rattle.layout.specs.Areas.{decoded}
+use Rattle.office_forms.proofs.Held.{held}
+use Rattle.office_views.proofs.Laws.{rest_all, rest_more}
+use Rattle.office_views.proofs.unclaimed_in.Statement.{statement}
+use Rattle.office_views.proofs.unclaimed_in.Tie as tie
 
-abbrev Inv-loop : tie.InvT-loop
-Inv-loop bytes used k₀ i₀ k i = (i ≤ used) × (k ≡ sumBy restOf (take i (decoded bytes .nodes))) × (k ≤ 4294967296 * i)
+abbrev invariant-loop : tie.invariant-loop
+invariant-loop bytes used k₀ i₀ k i = (i ≤ used) × (k ≡ sum_by rest_of (take i (decoded bytes).nodes)) × (k ≤ 4294967296 * i)
 
-abbrev μ-loop : tie.MeasureT-loop
-μ-loop bytes used k₀ i₀ k i = used - i
+abbrev decreases-loop : tie.decreases-loop
+decreases-loop bytes used k₀ i₀ k i = used - i
 
-loop-holds : tie.Need-loop-holds Inv-loop μ-loop
-loop-holds c = (search needs, sym (sumBy-none restOf (decoded (c .before .args .bytes .now) .nodes)), search needs)
+loop-holds : tie.Need-loop-init invariant-loop decreases-loop
+loop-holds c = (search rules, sym (sum_by_none rest_of (decoded c.before.args.bytes.now).nodes), search rules)
 
-cast-slot-in : tie.Need-cast-slot-in Inv-loop μ-loop
-cast-slot-in c = search needs
+cast-slot-in : tie.Need-overflow-cast-slot-in invariant-loop decreases-loop
+cast-slot-in c = search rules
 
-slot-in-requires : tie.Need-slot-in-requires Inv-loop μ-loop
+slot-in-requires : tie.Need-slot-in-requires invariant-loop decreases-loop
 slot-in-requires c κs =
-    let s = c .before .before .before in
-    let t = held (s .args .bytes .now) (s .pre .0) in
-    omega (arith, t .long, t .used)
+    let s = c.before.before.before in
+    let t = held s.args.bytes.now s.requires.0 in
+    omega (arith, t.long, t.used)
 
-rest-of-requires : tie.Need-rest-of-requires Inv-loop μ-loop
-rest-of-requires c κs = search needs
+rest-of-requires : tie.Need-rest-of-requires invariant-loop decreases-loop
+rest-of-requires c κs = search rules
 
-cast-k : tie.Need-cast-k Inv-loop μ-loop
-cast-k c = search needs
+cast-k : tie.Need-overflow-cast-k invariant-loop decreases-loop
+cast-k c = search rules
 
-add-k : tie.Need-add-k Inv-loop μ-loop
+add-k : tie.Need-overflow-add-k invariant-loop decreases-loop
 add-k c =
-    let s = c .before .before .before .before .before in
-    let t = held (s .args .bytes .now) (s .pre .0) in
-    omega (arith, t .room, t .used, c .rest-of .ok)
+    let s = c.before.before.before.before.before in
+    let t = held s.args.bytes.now s.requires.0 in
+    omega (arith, t.room, t.used, c.rest_of.type-inv)
 
-add-i : tie.Need-add-i Inv-loop μ-loop
-add-i c = search needs
+add-i : tie.Need-overflow-add-i invariant-loop decreases-loop
+add-i c = search rules
 
-loop-less : tie.Need-loop-less Inv-loop μ-loop
-loop-less c = search needs
+loop-less : tie.Need-loop-smaller invariant-loop decreases-loop
+loop-less c = search rules
 
-loop-again : tie.Need-loop-again Inv-loop μ-loop
+loop-again : tie.Need-loop-preserved invariant-loop decreases-loop
 loop-again c =
-    let s = c .before .before .before .before .before in
-    let loop = c .before .before .before .loop in
-    let h : loop .i < decoded (s .args .bytes .now) .used = omega arith in
-    let more = rest-more (s .args .bytes .now) (s .pre .0) (loop .i) h (c .before .slot-in .ensures) (c .rest-of .ensures) (loop .inv .1) in
-    (search needs, more, omega (arith, c .rest-of .ok))
+    let s = c.before.before.before.before.before in
+    let loop = c.before.before.before.loop in
+    let h : loop.i < (decoded s.args.bytes.now).used = omega arith in
+    let more = rest_more s.args.bytes.now s.requires.0 loop.i h c.before.slot-in.ensures c.rest_of.ensures loop.invariant.1 in
+    (search rules, more, omega (arith, c.rest_of.type-inv))
 
-returns : tie.Need-returns Inv-loop μ-loop
+returns : tie.Need-returns invariant-loop decreases-loop
 returns c =
-    let s = c .before .before .before in
-    let loop = c .before .loop in
-    let l = decoded (s .args .bytes .now) in
-    let e : loop .i ≡ l .used = omega arith in
-    loop .inv .1 ∙ (ap (λ (k : ℕ). sumBy restOf (take k (l .nodes))) e ∙ rest-all (s .args .bytes .now) (s .pre .0))
+    let s = c.before.before.before in
+    let loop = c.before.loop in
+    let l = decoded s.args.bytes.now in
+    let e : loop.i ≡ l.used = omega arith in
+    loop.invariant.1 ∙ (ap (λ (k : ℕ). sum_by rest_of (take k l.nodes)) e ∙ rest_all s.args.bytes.now s.requires.0)
 
-pub unclaimed-in-spec : {M : Type 1} → statement M
-unclaimed-in-spec =
+pub unclaimed_in_spec : {M : Type 1} → statement M
+unclaimed_in_spec =
     tie.close
     (tie.spec
-    Inv-loop
-    μ-loop
+    invariant-loop
+    decreases-loop
     loop-holds
     cast-slot-in
     slot-in-requires

@@ -1,11 +1,11 @@
 -- Another team's node is marked, and the team's own is passed.
-use Rattle·places·proofs.proofs.owned_moves.Statement.{statement}
-use Rattle·places·proofs.proofs.owned_moves.Tie as tie
+use Rattle.places.proofs.owned_moves.Statement.{statement}
+use Rattle.places.proofs.owned_moves.Tie as tie
 
-pub owned-moves-spec : {M : Type 1} → statement M
-owned-moves-spec = tie.close (tie.spec
+pub owned_moves_spec : {M : Type 1} → statement M
+owned_moves_spec = tie.close (tie.spec
     (λ c κs. tt)
     (λ c κs. tt)
     (λ c κs. tt)
-    (λ c. rw (← c .before .before .is-stealable .ensures, c .before .if1 .taken) (c .mark-here .ensures))
-    (λ c. rw (← c .before .before .is-stealable .ensures, c .before .if1 .left) (c .onward-from .ensures)))
+    (λ c. rw (← c.before.before.is-stealable.ensures, c.before.if1.true) c.mark-here.ensures)
+    (λ c. rw (← c.before.before.is-stealable.ensures, c.before.if1.false) c.onward-from.ensures))

@@ -1,13 +1,13 @@
 -- Parted, by this team or before it, or else.
-use Rattle·steps.specs.Places.{splitMoves}
-use Rattle·places·proofs.proofs.Laws.{is-parted, not-parted}
-use Rattle·places·proofs.proofs.split_moves.Statement.{statement}
-use Rattle·places·proofs.proofs.split_moves.Tie as tie
+use Rattle.steps.specs.Places.{split_moves}
+use Rattle.places.proofs.Laws.{is_parted, not_parted}
+use Rattle.places.proofs.split_moves.Statement.{statement}
+use Rattle.places.proofs.split_moves.Tie as tie
 
-pub split-moves-spec : {M : Type 1} → statement M
-unfolding splitMoves
-split-moves-spec = tie.close (tie.spec
+pub split_moves_spec : {M : Type 1} → statement M
+unfolding split_moves
+split_moves_spec = tie.close (tie.spec
     (λ c κs. tt)
     (λ c κs. tt)
-    (λ c. rw (is-parted (c .before .match .keys1)) (c .take-child .ensures))
-    (λ c. rw (not-parted (c .before .match .rest .1)) (c .start-again .ensures)))
+    (λ c. rw (is_parted c.before.match.keys1) c.take-child.ensures)
+    (λ c. rw (not_parted c.before.match.rest.1) c.start-again.ensures))

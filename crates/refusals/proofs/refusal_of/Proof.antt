@@ -1,11 +1,11 @@
 -- What every request tests, and then its kind.
-use Rattle·rules.specs.Refusals.{refusal}
-use Rattle·refusals·proofs.proofs.refusal_of.Statement.{statement}
-use Rattle·refusals·proofs.proofs.refusal_of.Tie as tie
+use Rattle.rules.specs.Refusals.{refusal}
+use Rattle.refusals.proofs.refusal_of.Statement.{statement}
+use Rattle.refusals.proofs.refusal_of.Tie as tie
 
-pub refusal-of-spec : {M : Type 1} → statement M
+pub refusal_of_spec : {M : Type 1} → statement M
 unfolding refusal
-refusal-of-spec = tie.close (tie.spec
+refusal_of_spec = tie.close (tie.spec
     (λ c κs. tt)
     (λ c κs. tt)
     (λ c κs. tt)

@@ -1,11 +1,11 @@
 -- A look changes nothing.
-use Rattle·rules.specs.Requests.{looking}
-use Rattle·requests·proofs.proofs.look_outcome.Statement.{statement}
-use Rattle·requests·proofs.proofs.look_outcome.Tie as tie
+use Rattle.rules.specs.Requests.{looking}
+use Rattle.requests.proofs.look_outcome.Statement.{statement}
+use Rattle.requests.proofs.look_outcome.Tie as tie
 
-pub look-outcome-spec : {M : Type 1} → statement M
+pub look_outcome_spec : {M : Type 1} → statement M
 unfolding looking
-look-outcome-spec = tie.close (tie.spec
+look_outcome_spec = tie.close (tie.spec
     (λ c κs. tt)
     (λ c κs. tt)
     (λ c. cc))

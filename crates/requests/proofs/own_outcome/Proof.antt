@@ -1,13 +1,13 @@
 -- The owner becomes the team.
-use Rattle·numbers.proofs.Signed.{told}
-use Rattle·rules.specs.Requests.{owning}
-use Rattle·requests·proofs.proofs.own_outcome.Statement.{statement}
-use Rattle·requests·proofs.proofs.own_outcome.Tie as tie
+use Rattle.numbers.proofs.Signed.{told}
+use Rattle.rules.specs.Requests.{owning}
+use Rattle.requests.proofs.own_outcome.Statement.{statement}
+use Rattle.requests.proofs.own_outcome.Tie as tie
 
-pub own-outcome-spec : {M : Type 1} → statement M
+pub own_outcome_spec : {M : Type 1} → statement M
 unfolding owning
-own-outcome-spec = tie.close (tie.spec
+own_outcome_spec = tie.close (tie.spec
     (λ c κs. tt)
     (λ c κs. tt)
     (λ c κs. tt)
-    (λ c. cc (told (c .before .before .before .before .before .args .r .team) (c .before .before .before .struct-told .given .1 .0 .1))))
+    (λ c. cc (told c.before.before.before.before.before.args.r.team c.before.before.before.struct_told.given.1.0.1)))

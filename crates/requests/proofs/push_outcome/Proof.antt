@@ -1,11 +1,11 @@
 -- The node gets its joined result.
-use Rattle·rules.specs.Requests.{pushing}
-use Rattle·requests·proofs.proofs.push_outcome.Statement.{statement}
-use Rattle·requests·proofs.proofs.push_outcome.Tie as tie
+use Rattle.rules.specs.Requests.{pushing}
+use Rattle.requests.proofs.push_outcome.Statement.{statement}
+use Rattle.requests.proofs.push_outcome.Tie as tie
 
-pub push-outcome-spec : {M : Type 1} → statement M
+pub push_outcome_spec : {M : Type 1} → statement M
 unfolding pushing
-push-outcome-spec =
+push_outcome_spec =
     tie.close
     (tie.spec
     (λ c κs. tt)

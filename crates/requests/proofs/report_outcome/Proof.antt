@@ -1,11 +1,11 @@
 -- The node gets its own result.
-use Rattle·rules.specs.Requests.{reporting}
-use Rattle·requests·proofs.proofs.report_outcome.Statement.{statement}
-use Rattle·requests·proofs.proofs.report_outcome.Tie as tie
+use Rattle.rules.specs.Requests.{reporting}
+use Rattle.requests.proofs.report_outcome.Statement.{statement}
+use Rattle.requests.proofs.report_outcome.Tie as tie
 
-pub report-outcome-spec : {M : Type 1} → statement M
+pub report_outcome_spec : {M : Type 1} → statement M
 unfolding reporting
-report-outcome-spec =
+report_outcome_spec =
     tie.close
     (tie.spec
     (λ c κs. tt)

@@ -1,62 +1,62 @@
 -- The count stays within the area, and each turn leaves fewer.
-use mathlib.Core.Path.{_≡_}
-use Prim.Native.Nat.{_≤_}
+use mathlib.Core.Path.{◌≡◌}
+use Prim.Native.Nat.{◌≤◌}
 use native.Mathlib.Omega.{arith}
 use lib.ListN.{length}
-use Rattle·io.proofs.Counting.{counts}
-use borrow.Author.Needs.{needs}
-use Rattle·sheets·proofs.proofs.read_all.Statement.{statement}
-use Rattle·sheets·proofs.proofs.read_all.Tie as tie
+use Rattle.io.proofs.Counting.{prefix_len_of_le}
+use borrow.Author.Rules.{rules}
+use Rattle.sheets.proofs.read_all.Statement.{statement}
+use Rattle.sheets.proofs.read_all.Tie as tie
 
-abbrev Inv-loop : tie.InvT-loop
-Inv-loop area₀ m₀ turns₀ area m turns = (m .count ≤ length area) × (length area ≡ length area₀)
+abbrev invariant-loop : tie.invariant-loop
+invariant-loop area₀ m₀ turns₀ area m turns = (m.count ≤ length area) × (length area ≡ length area₀)
 
-abbrev μ-loop : tie.MeasureT-loop
-μ-loop area₀ m₀ turns₀ area m turns = turns
+abbrev decreases-loop : tie.decreases-loop
+decreases-loop area₀ m₀ turns₀ area m turns = turns
 
-nothing-moved-requires : tie.Need-nothing-moved-requires Inv-loop μ-loop
-nothing-moved-requires c κs = search needs
+nothing-moved-requires : tie.Need-nothing-moved-requires invariant-loop decreases-loop
+nothing-moved-requires c κs = search rules
 
-loop-holds : tie.Need-loop-holds Inv-loop μ-loop
-loop-holds c = search needs
+loop-holds : tie.Need-loop-init invariant-loop decreases-loop
+loop-holds c = search rules
 
-sub-turns : tie.Need-sub-turns Inv-loop μ-loop
-sub-turns c = search needs
+sub-turns : tie.Need-overflow-sub-turns invariant-loop decreases-loop
+sub-turns c = search rules
 
-read-on-requires : tie.Need-read-on-requires Inv-loop μ-loop
-read-on-requires c κs = search needs
+read-on-requires : tie.Need-read-on-requires invariant-loop decreases-loop
+read-on-requires c κs = search rules
 
-loop-less : tie.Need-loop-less Inv-loop μ-loop
-loop-less c = search needs
+loop-less : tie.Need-loop-smaller invariant-loop decreases-loop
+loop-less c = search rules
 
-loop-again : tie.Need-loop-again Inv-loop μ-loop
-loop-again c = search needs
+loop-again : tie.Need-loop-preserved invariant-loop decreases-loop
+loop-again c = search rules
 
-same-length : tie.Need-same-length Inv-loop μ-loop
-same-length c = search needs
+same_length : tie.Need-same-length invariant-loop decreases-loop
+same_length c = search rules
 
-returns : tie.Need-returns Inv-loop μ-loop
-returns c = counts _ _ (search needs)
+returns : tie.Need-returns invariant-loop decreases-loop
+returns c = prefix_len_of_le _ _ (search rules)
 
-same-length-2 : tie.Need-same-length-2 Inv-loop μ-loop
-same-length-2 c = search needs
+same-length-2 : tie.Need-same-length-2 invariant-loop decreases-loop
+same-length-2 c = search rules
 
-returns-2 : tie.Need-returns-2 Inv-loop μ-loop
-returns-2 c = counts _ _ (search needs)
+returns-2 : tie.Need-returns-2 invariant-loop decreases-loop
+returns-2 c = prefix_len_of_le _ _ (search rules)
 
-pub read-all-spec : {M : Type 1} → statement M
-read-all-spec =
+pub read_all_spec : {M : Type 1} → statement M
+read_all_spec =
     tie.close
     (tie.spec
-    Inv-loop
-    μ-loop
+    invariant-loop
+    decreases-loop
     nothing-moved-requires
     loop-holds
     sub-turns
     read-on-requires
     loop-less
     loop-again
-    same-length
+    same_length
     returns
     same-length-2
     returns-2)

@@ -1,12 +1,12 @@
 -- The length of the area, by the law.
 use Prim.Native.Nat.{ℕ}
-use Rattle·listing_rules.specs.Demands.{shortListingRoom}
-use Rattle·sheets·proofs.proofs.Areas.{repeat-length}
-use Rattle·sheets·proofs.proofs.short_listing_area.Statement.{statement}
-use Rattle·sheets·proofs.proofs.short_listing_area.Tie as tie
+use Rattle.listing_rules.specs.Demands.{short_listing_room}
+use Rattle.sheets.proofs.Areas.{repeat_length}
+use Rattle.sheets.proofs.short_listing_area.Statement.{statement}
+use Rattle.sheets.proofs.short_listing_area.Tie as tie
 
 returns : tie.Need-returns
-returns c = repeat-length ℕ 0 shortListingRoom
+returns c = repeat_length ℕ 0 short_listing_room
 
-pub short-listing-area-spec : {M : Type 1} → statement M
-short-listing-area-spec = tie.close (tie.spec returns)
+pub short_listing_area_spec : {M : Type 1} → statement M
+short_listing_area_spec = tie.close (tie.spec returns)

@@ -1,16 +1,16 @@
 -- A copy, number by number.
-use mathlib.Core.Path.{_≡_, sym, ap, _∙_}
-use mathlib.Core.List.{List, _++_}
-use Prim.Native.Nat.{ℕ, _+_, _-_, _≤_, _<_}
+use mathlib.Core.Path.{◌≡◌, sym, ap, ◌∙◌}
+use mathlib.Core.List.{List, ◌++◌}
+use Prim.Native.Nat.{ℕ, ◌+◌, ◌-◌, ◌≤◌, ◌<◌}
 use native.Mathlib.Nat.{zero-add}
 use native.Mathlib.Numerals.{add-one}
 use native.Mathlib.Omega.{arith}
 use lib.IntN.{ℤ, pos}
-use lib.ListN.{length, getD, set, take, drop}
+use lib.ListN.{length, get_or, set, take, drop}
 use lib.Seq.{paste, paste-zero, paste-suc, length-paste}
-use Rattle·numbers.proofs.Signed.{told}
-use Rattle·text·proofs.proofs.fill.Statement.{statement}
-use Rattle·text·proofs.proofs.fill.Tie as tie
+use Rattle.numbers.proofs.Signed.{told}
+use Rattle.text.proofs.fill.Statement.{statement}
+use Rattle.text.proofs.fill.Tie as tie
 
 -- so many numbers were copied
 record Copied (kept : List ℤ) (count : ℕ) (before area : List ℤ) (i : ℕ) : Type 0 where
@@ -19,69 +19,69 @@ record Copied (kept : List ℤ) (count : ℕ) (before area : List ℤ) (i : ℕ)
 
 copied-size : (kept : List ℤ) (count : ℕ) (before area : List ℤ) (i : ℕ) → Copied kept count before area i → count ≤ length kept → count ≤ length before → length area ≡ length before
 copied-size kept count before area i r h k =
-    rw (r .same) (length-paste before 0 kept i (omega (arith, r .most, k)) (omega (arith, r .most, h)))
+    rw r.same (length-paste before 0 kept i (omega (arith, r.most, k)) (omega (arith, r.most, h)))
 
-copy-next : (kept : List ℤ) (count : ℕ) (before area : List ℤ) (i : ℕ) → Copied kept count before area i → count ≤ length kept → count ≤ length before → i < count → Copied kept count before (set area i (getD kept i (pos 0))) (i + 1)
+copy-next : (kept : List ℤ) (count : ℕ) (before area : List ℤ) (i : ℕ) → Copied kept count before area i → count ≤ length kept → count ≤ length before → i < count → Copied kept count before (set area i (get_or kept i (pos 0))) (i + 1)
 copy-next kept count before area i r h k l =
     let next = paste-suc before 0 kept i (pos 0) (omega (arith, l, k)) (omega (arith, l, h)) in
-    let here = ap (λ (k : ℕ). set (paste before 0 kept i) k (getD kept i (pos 0))) (sym (zero-add i)) in
-    record { most = omega (arith, l); same = rw (r .same, add-one i) (here ∙ next) }
+    let here = ap (λ (k : ℕ). set (paste before 0 kept i) k (get_or kept i (pos 0))) (sym (zero-add i)) in
+    record { most = omega (arith, l); same = rw (r.same, add-one i) (here ∙ next) }
 
 copy-ends : (kept : List ℤ) (count : ℕ) (before area : List ℤ) (i : ℕ) → Copied kept count before area i → count ≤ i → area ≡ take count kept ++ drop count before
 copy-ends kept count before area i r h =
-    let all : i ≡ count = omega (arith, r .most, h) in
-    r .same ∙ rw (all, zero-add count)
+    let all : i ≡ count = omega (arith, r.most, h) in
+    r.same ∙ rw (all, zero-add count)
 
-abbrev Inv-loop : tie.InvT-loop
-Inv-loop kept count area₀ i₀ area i = Copied kept count area₀ area i
+abbrev invariant-loop : tie.invariant-loop
+invariant-loop kept count area₀ i₀ area i = Copied kept count area₀ area i
 
-abbrev μ-loop : tie.MeasureT-loop
-μ-loop kept count area₀ i₀ area i = count - i
+abbrev decreases-loop : tie.decreases-loop
+decreases-loop kept count area₀ i₀ area i = count - i
 
-loop-holds : tie.Need-loop-holds Inv-loop μ-loop
-loop-holds c = record { most = omega arith; same = paste-zero _ 0 (c .args .kept .now) }
+loop-holds : tie.Need-loop-init invariant-loop decreases-loop
+loop-holds c = record { most = omega arith; same = paste-zero _ 0 c.args.kept.now }
 
-mul-area : tie.Need-mul-area Inv-loop μ-loop
-mul-area c = omega (arith, c .loop-test .taken, c .before .before .pre .0)
+mul-area : tie.Need-overflow-mul-area invariant-loop decreases-loop
+mul-area c = omega (arith, c.loop-test.true, c.before.before.requires.0)
 
-shared-slice-copy-out-area : tie.Need-shared-slice-copy-out-area Inv-loop μ-loop
-shared-slice-copy-out-area c = omega (arith, c .loop-test .taken, c .before .before .pre .0)
+shared-slice-copy-out-area : tie.Need-shared-slice-copy-out-area invariant-loop decreases-loop
+shared-slice-copy-out-area c = omega (arith, c.loop-test.true, c.before.before.requires.0)
 
-mul-t9 : tie.Need-mul-t9 Inv-loop μ-loop
-mul-t9 c = omega (arith, c .before .loop-test .taken, c .before .before .before .pre .0)
+mul-t9 : tie.Need-overflow-mul-t9 invariant-loop decreases-loop
+mul-t9 c = omega (arith, c.before.loop-test.true, c.before.before.before.requires.0)
 
-slice-set-from-area : tie.Need-slice-set-from-area Inv-loop μ-loop
+slice-set-from-area : tie.Need-slice-set-from-area invariant-loop decreases-loop
 slice-set-from-area c =
-    let l = c .before .before .loop in
-    let s = c .before .before .before in
-    omega (arith, c .before .loop-test .taken, s .pre .1, copied-size _ _ _ _ (l .i) (l .inv) (s .pre .0) (s .pre .1))
+    let l = c.before.before.loop in
+    let s = c.before.before.before in
+    omega (arith, c.before.loop-test.true, s.requires.1, copied-size _ _ _ _ l.i l.invariant s.requires.0 s.requires.1)
 
-add-i : tie.Need-add-i Inv-loop μ-loop
-add-i c = omega (arith, c .before .loop-test .taken, c .before .before .before .pre .0)
+add-i : tie.Need-overflow-add-i invariant-loop decreases-loop
+add-i c = omega (arith, c.before.loop-test.true, c.before.before.before.requires.0)
 
-loop-less : tie.Need-loop-less Inv-loop μ-loop
-loop-less c = omega (arith, c .before .loop-test .taken)
+loop-less : tie.Need-loop-smaller invariant-loop decreases-loop
+loop-less c = omega (arith, c.before.loop-test.true)
 
-loop-again : tie.Need-loop-again Inv-loop μ-loop
+loop-again : tie.Need-loop-preserved invariant-loop decreases-loop
 loop-again c =
-    let l = c .before .before .loop in
-    let s = c .before .before .before in
-    rw (told _ (c .area .given)) (copy-next _ _ _ _ (l .i) (l .inv) (s .pre .0) (s .pre .1) (c .before .loop-test .taken))
+    let l = c.before.before.loop in
+    let s = c.before.before.before in
+    rw (told _ c.area.given) (copy-next _ _ _ _ l.i l.invariant s.requires.0 s.requires.1 c.before.loop-test.true)
 
-same-length : tie.Need-same-length Inv-loop μ-loop
-same-length c =
-    let s = c .before .before in
-    copied-size _ _ _ _ (c .before .loop .i) (c .before .loop .inv) (s .pre .0) (s .pre .1)
+same_length : tie.Need-same-length invariant-loop decreases-loop
+same_length c =
+    let s = c.before.before in
+    copied-size _ _ _ _ c.before.loop.i c.before.loop.invariant s.requires.0 s.requires.1
 
-returns : tie.Need-returns Inv-loop μ-loop
-returns c = copy-ends _ _ _ _ (c .before .loop .i) (c .before .loop .inv) (c .loop-test .left)
+returns : tie.Need-returns invariant-loop decreases-loop
+returns c = copy-ends _ _ _ _ c.before.loop.i c.before.loop.invariant c.loop-test.false
 
-pub fill-spec : {M : Type 1} → statement M
-fill-spec =
+pub fill_spec : {M : Type 1} → statement M
+fill_spec =
     tie.close
     (tie.spec
-    Inv-loop
-    μ-loop
+    invariant-loop
+    decreases-loop
     loop-holds
     mul-area
     shared-slice-copy-out-area
@@ -90,5 +90,5 @@ fill-spec =
     add-i
     loop-less
     loop-again
-    same-length
+    same_length
     returns)

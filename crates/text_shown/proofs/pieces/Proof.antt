@@ -1,31 +1,31 @@
 -- Each piece ends past its begin.
-use borrow.Author.Needs.{needs}
-use Prim.Native.Nat.{_-_}
+use borrow.Author.Rules.{rules}
+use Prim.Native.Nat.{◌-◌}
 use lib.ListN.{length}
-use Rattle·text_shown·proofs.proofs.pieces.Statement.{statement}
-use Rattle·text_shown·proofs.proofs.pieces.Tie as tie
+use Rattle.text_shown.proofs.pieces.Statement.{statement}
+use Rattle.text_shown.proofs.pieces.Tie as tie
 
-abbrev Inv-loop : tie.InvT-loop
-Inv-loop text at₀ at = Unit
+abbrev invariant-loop : tie.invariant-loop
+invariant-loop text at₀ at = Unit
 
-abbrev μ-loop : tie.MeasureT-loop
-μ-loop text at₀ at = length text - at
+abbrev decreases-loop : tie.decreases-loop
+decreases-loop text at₀ at = length text - at
 
-loop-holds : tie.Need-loop-holds Inv-loop μ-loop
-loop-holds c = search needs
+loop-holds : tie.Need-loop-init invariant-loop decreases-loop
+loop-holds c = search rules
 
-piece-requires : tie.Need-piece-requires Inv-loop μ-loop
-piece-requires c κs = search needs
+piece-requires : tie.Need-piece-requires invariant-loop decreases-loop
+piece-requires c κs = search rules
 
-loop-less : tie.Need-loop-less Inv-loop μ-loop
-loop-less c = search needs
+loop-less : tie.Need-loop-smaller invariant-loop decreases-loop
+loop-less c = search rules
 
-loop-again : tie.Need-loop-again Inv-loop μ-loop
-loop-again c = search needs
+loop-again : tie.Need-loop-preserved invariant-loop decreases-loop
+loop-again c = search rules
 
-returns : tie.Need-returns Inv-loop μ-loop
-returns c = search needs
+returns : tie.Need-returns invariant-loop decreases-loop
+returns c = search rules
 
-pub pieces-spec : {M : Type 1} → statement M
-pieces-spec =
-    tie.close (tie.spec Inv-loop μ-loop loop-holds piece-requires loop-less loop-again returns)
+pub pieces_spec : {M : Type 1} → statement M
+pieces_spec =
+    tie.close (tie.spec invariant-loop decreases-loop loop-holds piece-requires loop-less loop-again returns)

@@ -1,32 +1,32 @@
 -- A value that is too large stays; else the digit is added behind it.
 use borrow.Author.Tests.{lt-ltb, le-ltb}
-use borrow.Author.Needs.{needs}
-use Rattle·text_rules.specs.Digits.{maxNumber}
-use Rattle·tokens·proofs.proofs.Classes.{numeral-within}
-use Rattle·tokens·proofs.proofs.one_more.Statement.{statement}
-use Rattle·tokens·proofs.proofs.one_more.Tie as tie
+use borrow.Author.Rules.{rules}
+use Rattle.text_rules.specs.Digits.{max_number}
+use Rattle.tokens.proofs.Classes.{numeral_within}
+use Rattle.tokens.proofs.one_more.Statement.{statement}
+use Rattle.tokens.proofs.one_more.Tie as tie
 
-sub-digit : tie.Need-sub-digit
-sub-digit c = numeral-within _ (c .pre .1) .0
+sub-digit : tie.Need-overflow-sub-digit
+sub-digit c = (numeral_within _ c.requires.1).0
 
-cast-if1 : tie.Need-cast-if1
-cast-if1 c = search needs
+cast-if1 : tie.Need-overflow-cast-if1
+cast-if1 c = search rules
 
-mul-result : tie.Need-mul-result
-mul-result c = search needs
+mul-result : tie.Need-overflow-mul-result
+mul-result c = search rules
 
-cast-result : tie.Need-cast-result
-cast-result c = search needs
+cast-result : tie.Need-overflow-cast-result
+cast-result c = search rules
 
-add-result : tie.Need-add-result
-add-result c = search needs
+add-result : tie.Need-overflow-add-result
+add-result c = search rules
 
 returns : tie.Need-returns
-returns c = rw (lt-ltb maxNumber _ (c .if1 .taken))
+returns c = rw (lt-ltb max_number _ c.if1.true)
 
 returns-2 : tie.Need-returns-2
-returns-2 c = rw (le-ltb maxNumber _ (c .if1 .left))
+returns-2 c = rw (le-ltb max_number _ c.if1.false)
 
-pub one-more-spec : {M : Type 1} → statement M
-one-more-spec =
+pub one_more_spec : {M : Type 1} → statement M
+one_more_spec =
     tie.close (tie.spec sub-digit cast-if1 mul-result cast-result add-result returns returns-2)

@@ -1,132 +1,132 @@
 -- The invariant: what was met, with the walk from those that wait, is the whole walk.
-use borrow.Author.Needs.{needs}
+use borrow.Author.Rules.{rules}
 use native.Mathlib.Omega.{arith}
-use mathlib.Core.Path.{_≡_, sym, _∙_}
-use Prim.Native.Nat.{_+_, _-_, _*_, _≤_}
+use mathlib.Core.Path.{◌≡◌, sym, ◌∙◌}
+use Prim.Native.Nat.{◌+◌, ◌-◌, ◌*◌, ◌≤◌}
 use lib.ListN.{length, take}
-use Rattle·rules.specs.Limits.{maxNodes}
-use Rattle·walks·specs.specs.Counts.{leftIn, met}
-use Rattle·walks·proofs.proofs.Turns.{front, one-turn, starts, ends}
-use Rattle·walks·proofs.proofs.walked.Statement.{statement}
-use Rattle·walks·proofs.proofs.walked.Tie as tie
+use Rattle.rules.specs.Limits.{max_nodes}
+use Rattle.walks.specs.Counts.{left_in, met}
+use Rattle.walks.proofs.Turns.{front, one_turn, starts, ends}
+use Rattle.walks.proofs.walked.Statement.{statement}
+use Rattle.walks.proofs.walked.Tie as tie
 
-abbrev Inv-loop : tie.InvT-loop
-Inv-loop used lefts steps places₀ tail₀ i₀ places tail i = (i ≤ steps) × (length places ≡ 2 * maxNodes + 1) × (tail ≤ 1 + 2 * i) × (front (leftIn lefts) steps (take tail places) i ≡ met lefts used) × (length lefts ≡ maxNodes) × (steps ≤ maxNodes)
+abbrev invariant-loop : tie.invariant-loop
+invariant-loop used lefts steps places₀ tail₀ i₀ places tail i = (i ≤ steps) × (length places ≡ 2 * max_nodes + 1) × (tail ≤ 1 + 2 * i) × (front (left_in lefts) steps (take tail places) i ≡ met lefts used) × (length lefts ≡ max_nodes) × (steps ≤ max_nodes)
 
-abbrev μ-loop : tie.MeasureT-loop
-μ-loop used lefts steps places₀ tail₀ i₀ places tail i = steps - i
+abbrev decreases-loop : tie.decreases-loop
+decreases-loop used lefts steps places₀ tail₀ i₀ places tail i = steps - i
 
-lesser-requires : tie.Need-lesser-requires Inv-loop μ-loop
-lesser-requires c κs = search needs
+lesser-requires : tie.Need-lesser-requires invariant-loop decreases-loop
+lesser-requires c κs = search rules
 
-cast-steps : tie.Need-cast-steps Inv-loop μ-loop
-cast-steps c = search needs
+cast-steps : tie.Need-overflow-cast-steps invariant-loop decreases-loop
+cast-steps c = search rules
 
-array-write-places : tie.Need-array-write-places Inv-loop μ-loop
-array-write-places c = search needs
+array-write-places : tie.Need-array-write-places invariant-loop decreases-loop
+array-write-places c = search rules
 
-loop-holds : tie.Need-loop-holds Inv-loop μ-loop
-loop-holds c = (search needs, search needs, search needs, starts (c .before .args .t1) (c .before .args .used) (c .lesser .result) (c .lesser .ensures), search needs, omega (arith, c .lesser .ensures))
+loop-holds : tie.Need-loop-init invariant-loop decreases-loop
+loop-holds c = (search rules, search rules, search rules, starts c.before.args.t1 c.before.args.used c.lesser.result c.lesser.ensures, search rules, omega (arith, c.lesser.ensures))
 
-mul-n : tie.Need-mul-n Inv-loop μ-loop
-mul-n c = search needs
+mul-n : tie.Need-overflow-mul-n invariant-loop decreases-loop
+mul-n c = search rules
 
-array-read-n : tie.Need-array-read-n Inv-loop μ-loop
-array-read-n c = search needs
+array-read-n : tie.Need-array-read-n invariant-loop decreases-loop
+array-read-n c = search rules
 
-slot-of-requires : tie.Need-slot-of-requires Inv-loop μ-loop
-slot-of-requires c κs = search needs
+slot-of-requires : tie.Need-slot-of-requires invariant-loop decreases-loop
+slot-of-requires c κs = search rules
 
-mul-left-of : tie.Need-mul-left-of Inv-loop μ-loop
-mul-left-of c = search needs
+mul-left-of : tie.Need-overflow-mul-left-of invariant-loop decreases-loop
+mul-left-of c = search rules
 
-array-read-left-of : tie.Need-array-read-left-of Inv-loop μ-loop
-array-read-left-of c = search needs
+array-read-left-of : tie.Need-array-read-left-of invariant-loop decreases-loop
+array-read-left-of c = search rules
 
-left-of-requires : tie.Need-left-of-requires Inv-loop μ-loop
-left-of-requires c κs = search needs
+left-of-requires : tie.Need-left-of-requires invariant-loop decreases-loop
+left-of-requires c κs = search rules
 
-more-after-requires : tie.Need-more-after-requires Inv-loop μ-loop
-more-after-requires c κs = search needs
+more-after-requires : tie.Need-more-after-requires invariant-loop decreases-loop
+more-after-requires c κs = search rules
 
-mul-places : tie.Need-mul-places Inv-loop μ-loop
-mul-places c = search needs
+mul-places : tie.Need-overflow-mul-places invariant-loop decreases-loop
+mul-places c = search rules
 
-array-write-places-2 : tie.Need-array-write-places-2 Inv-loop μ-loop
-array-write-places-2 c = search needs
+array-write-places-2 : tie.Need-array-write-places-2 invariant-loop decreases-loop
+array-write-places-2 c = search rules
 
-add-places : tie.Need-add-places Inv-loop μ-loop
-add-places c = search needs
+add-places : tie.Need-overflow-add-places invariant-loop decreases-loop
+add-places c = search rules
 
-add-places-2 : tie.Need-add-places-2 Inv-loop μ-loop
-add-places-2 c = search needs
+add-places-2 : tie.Need-overflow-add-places-2 invariant-loop decreases-loop
+add-places-2 c = search rules
 
-mul-places-2 : tie.Need-mul-places-2 Inv-loop μ-loop
-mul-places-2 c = search needs
+mul-places-2 : tie.Need-overflow-mul-places-2 invariant-loop decreases-loop
+mul-places-2 c = search rules
 
-array-write-places-3 : tie.Need-array-write-places-3 Inv-loop μ-loop
-array-write-places-3 c = search needs
+array-write-places-3 : tie.Need-array-write-places-3 invariant-loop decreases-loop
+array-write-places-3 c = search rules
 
-add-tail : tie.Need-add-tail Inv-loop μ-loop
-add-tail c = search needs
+add-tail : tie.Need-overflow-add-tail invariant-loop decreases-loop
+add-tail c = search rules
 
-add-i : tie.Need-add-i Inv-loop μ-loop
-add-i c = search needs
+add-i : tie.Need-overflow-add-i invariant-loop decreases-loop
+add-i c = search rules
 
-loop-less : tie.Need-loop-less Inv-loop μ-loop
-loop-less c = search needs
+loop-less : tie.Need-loop-smaller invariant-loop decreases-loop
+loop-less c = search rules
 
-loop-again : tie.Need-loop-again Inv-loop μ-loop
+loop-again : tie.Need-loop-preserved invariant-loop decreases-loop
 loop-again c =
-    let p = c .before .before .before .before .loop in
-    let lefts = c .before .before .before .before .before .before .args .t1 in
-    let slot = c .before .before .slot-of in
-    let left = c .before .left-of in
-    let more = c .more-after in (
-      search needs,
-      search needs,
-      omega (arith, more .ensures .3, p .inv .2),
-      one-turn
+    let p = c.before.before.before.before.loop in
+    let lefts = c.before.before.before.before.before.before.args.t1 in
+    let slot = c.before.before.slot_of in
+    let left = c.before.left_of in
+    let more = c.more-after in (
+      search rules,
+      search rules,
+      omega (arith, more.ensures.3, p.invariant.2),
+      one_turn
           lefts
-          (c .before .before .before .before .before .lesser .result)
-          (p .tail)
-          (p .i)
-          (p .places)
-          (slot .result)
-          (left .result)
+          c.before.before.before.before.before.lesser.result
+          p.tail
+          p.i
+          p.places
+          slot.result
+          left.result
           _
-          (more .result)
-          (p .inv .1)
-          (p .inv .4)
-          (search needs)
-          (p .inv .5)
-          (p .inv .2)
-          (slot .ensures .1)
-          (left .ensures .0)
-          (left .ensures .1)
-          (search needs)
-          (more .ensures .0)
-          (more .ensures .1)
-          (more .ensures .2)
-          ∙ p .inv .3,
-      p .inv .4,
-      p .inv .5,
+          more.result
+          p.invariant.1
+          p.invariant.4
+          (search rules)
+          p.invariant.5
+          p.invariant.2
+          slot.ensures.1
+          left.ensures.0
+          left.ensures.1
+          (search rules)
+          more.ensures.0
+          more.ensures.1
+          more.ensures.2
+          ∙ p.invariant.3,
+      p.invariant.4,
+      p.invariant.5,
     )
 
-returns : tie.Need-returns Inv-loop μ-loop
+returns : tie.Need-returns invariant-loop decreases-loop
 returns c =
-    let p = c .before .loop in
-    let lefts = c .before .before .before .args .t1 in
-    let steps = c .before .before .lesser .result in
-    let e : p .i ≡ steps = omega arith in
-    (sym (ends (leftIn lefts) steps (p .i) (take (p .tail) (p .places)) e) ∙ p .inv .3, omega (arith, p .inv .2, p .inv .5))
+    let p = c.before.loop in
+    let lefts = c.before.before.before.args.t1 in
+    let steps = c.before.before.lesser.result in
+    let e : p.i ≡ steps = omega arith in
+    (sym (ends (left_in lefts) steps p.i (take p.tail p.places) e) ∙ p.invariant.3, omega (arith, p.invariant.2, p.invariant.5))
 
-pub walked-spec : {M : Type 1} → statement M
-walked-spec =
+pub walked_spec : {M : Type 1} → statement M
+walked_spec =
     tie.close
     (tie.spec
-    Inv-loop
-    μ-loop
+    invariant-loop
+    decreases-loop
     lesser-requires
     cast-steps
     array-write-places

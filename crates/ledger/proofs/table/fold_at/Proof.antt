@@ -1,15 +1,15 @@
 -- The node and both slots of its pair are stored.
-use borrow.Author.Needs.{needs}
-use Rattle·ledger·proofs.proofs.table.fold_at.Statement.{statement}
-use Rattle·ledger·proofs.proofs.table.fold_at.Tie as tie
+use borrow.Author.Rules.{rules}
+use Rattle.ledger.proofs.table.fold_at.Statement.{statement}
+use Rattle.ledger.proofs.table.fold_at.Tie as tie
 
-pub fold-at-spec : {M : Type 1} → statement M
-fold-at-spec = tie.close (tie.spec
-    (λ c κs. search needs)
-    (λ c κs. search needs)
-    (λ c κs. search needs)
-    (λ c κs. search needs)
-    (λ c. search needs)
-    (λ c κs. search needs)
-    (λ c κs. search needs)
+pub fold_at_spec : {M : Type 1} → statement M
+fold_at_spec = tie.close (tie.spec
+    (λ c κs. search rules)
+    (λ c κs. search rules)
+    (λ c κs. search rules)
+    (λ c κs. search rules)
+    (λ c. search rules)
+    (λ c κs. search rules)
+    (λ c κs. search rules)
     (λ c. cc))

@@ -1,76 +1,76 @@
 -- The invariant: best is the answer for the pairs after j.
-use borrow.Author.Needs.{needs}
+use borrow.Author.Rules.{rules}
 use native.Mathlib.Omega.{arith}
-use mathlib.Core.Path.{_≡_, refl, _∙_}
-use Prim.Native.Nat.{ℕ, _+_, _-_, _*_, _/_, _≤_, _<_}
-use lib.ListN.{length, getD}
-use Rattle·rules.specs.Limits.{maxNodes}
-use Rattle·rules.specs.Table.{freeFrom}
-use Rattle·ledger·proofs.proofs.Laws.{freeAt, pair-last, pair-down, pair-done}
-use Rattle·ledger·proofs.proofs.table.next_pair.Statement.{statement}
-use Rattle·ledger·proofs.proofs.table.next_pair.Tie as tie
+use mathlib.Core.Path.{◌≡◌, refl, ◌∙◌}
+use Prim.Native.Nat.{ℕ, ◌+◌, ◌-◌, ◌*◌, ◌/◌, ◌≤◌, ◌<◌}
+use lib.ListN.{length, get_or}
+use Rattle.rules.specs.Limits.{max_nodes}
+use Rattle.rules.specs.Table.{free_from}
+use Rattle.ledger.proofs.Laws.{free_at, pair_last, pair_down, pair_done}
+use Rattle.ledger.proofs.table.next_pair.Statement.{statement}
+use Rattle.ledger.proofs.table.next_pair.Tie as tie
 
-abbrev Inv-loop : tie.InvT-loop
-Inv-loop l half best₀ j₀ best j = (j ≤ half) × (2 * half ≤ maxNodes) × (best ≡ freeFrom (freeAt l) (half - j) (2 + 2 * j))
+abbrev invariant-loop : tie.invariant-loop
+invariant-loop l half best₀ j₀ best j = (j ≤ half) × (2 * half ≤ max_nodes) × (best ≡ free_from (free_at l) (half - j) (2 + 2 * j))
 
-abbrev μ-loop : tie.MeasureT-loop
-μ-loop l half best₀ j₀ best j = j
+abbrev decreases-loop : tie.decreases-loop
+decreases-loop l half best₀ j₀ best j = j
 
-mul-best : tie.Need-mul-best Inv-loop μ-loop
-mul-best c = search needs
+mul-best : tie.Need-overflow-mul-best invariant-loop decreases-loop
+mul-best c = search rules
 
-add-best : tie.Need-add-best Inv-loop μ-loop
-add-best c = search needs
+add-best : tie.Need-overflow-add-best invariant-loop decreases-loop
+add-best c = search rules
 
-loop-holds : tie.Need-loop-holds Inv-loop μ-loop
-loop-holds c = (search needs, search needs, pair-last (c .args .t1) (c .args .t1 .used / 2))
+loop-holds : tie.Need-loop-init invariant-loop decreases-loop
+loop-holds c = (search rules, search rules, pair_last c.args.t1 (c.args.t1.used / 2))
 
-mul-c : tie.Need-mul-c Inv-loop μ-loop
-mul-c c = search needs
+mul-c : tie.Need-overflow-mul-c invariant-loop decreases-loop
+mul-c c = search rules
 
-sub-x : tie.Need-sub-x Inv-loop μ-loop
-sub-x c = search needs
+sub-x : tie.Need-overflow-sub-x invariant-loop decreases-loop
+sub-x c = search rules
 
-cast-x : tie.Need-cast-x Inv-loop μ-loop
-cast-x c = search needs
+cast-x : tie.Need-overflow-cast-x invariant-loop decreases-loop
+cast-x c = search rules
 
-mul-x : tie.Need-mul-x Inv-loop μ-loop
-mul-x c = search needs
+mul-x : tie.Need-overflow-mul-x invariant-loop decreases-loop
+mul-x c = search rules
 
-element-copy-out-x : tie.Need-element-copy-out-x Inv-loop μ-loop
-element-copy-out-x c = search needs
+element-copy-out-x : tie.Need-element-copy-out-x invariant-loop decreases-loop
+element-copy-out-x c = search rules
 
-blank-ok-requires : tie.Need-blank-ok-requires Inv-loop μ-loop
-blank-ok-requires c κs = search needs
+blank-ok-requires : tie.Need-blank-ok-requires invariant-loop decreases-loop
+blank-ok-requires c κs = search rules
 
-pick-requires : tie.Need-pick-requires Inv-loop μ-loop
-pick-requires c κs = search needs
+pick-requires : tie.Need-pick-requires invariant-loop decreases-loop
+pick-requires c κs = search rules
 
-sub-j : tie.Need-sub-j Inv-loop μ-loop
-sub-j c = search needs
+sub-j : tie.Need-overflow-sub-j invariant-loop decreases-loop
+sub-j c = search rules
 
-loop-less : tie.Need-loop-less Inv-loop μ-loop
-loop-less c = search needs
+loop-less : tie.Need-loop-smaller invariant-loop decreases-loop
+loop-less c = search rules
 
-loop-again : tie.Need-loop-again Inv-loop μ-loop
+loop-again : tie.Need-loop-preserved invariant-loop decreases-loop
 loop-again c =
-    let l = c .before .before .before .before .before .args .t1 in
-    let p = c .before .before .before .before .loop in
-    let free = c .before .blank-ok in (
-      search needs,
-      p .inv .1,
-      c .pick .ensures ∙ pair-down l (l .used / 2) (p .j) (p .best) (2 * p .j) (free .result) (search needs) (p .inv .0) refl (free .ensures) (p .inv .2),
+    let l = c.before.before.before.before.before.args.t1 in
+    let p = c.before.before.before.before.loop in
+    let free = c.before.blank_ok in (
+      search rules,
+      p.invariant.1,
+      c.pick.ensures ∙ pair_down l (l.used / 2) p.j p.best (2 * p.j) free.result (search rules) p.invariant.0 refl free.ensures p.invariant.2,
     )
 
-returns : tie.Need-returns Inv-loop μ-loop
-returns c = pair-done (c .before .before .args .t1) (c .before .loop .j) (c .before .loop .best) (search needs) (c .before .loop .inv .2)
+returns : tie.Need-returns invariant-loop decreases-loop
+returns c = pair_done c.before.before.args.t1 c.before.loop.j c.before.loop.best (search rules) c.before.loop.invariant.2
 
-pub next-pair-spec : {M : Type 1} → statement M
-next-pair-spec =
+pub next_pair_spec : {M : Type 1} → statement M
+next_pair_spec =
     tie.close
     (tie.spec
-    Inv-loop
-    μ-loop
+    invariant-loop
+    decreases-loop
     mul-best
     add-best
     loop-holds

@@ -1,13 +1,13 @@
 -- Node n stands in slot n - 1.
-use borrow.Author.Needs.{needs}
-use Rattle·rules.specs.Table.{at}
-use Rattle·ledger·proofs.proofs.table.node_at.Statement.{statement}
-use Rattle·ledger·proofs.proofs.table.node_at.Tie as tie
+use borrow.Author.Rules.{rules}
+use Rattle.rules.specs.Table.{at}
+use Rattle.ledger.proofs.table.node_at.Statement.{statement}
+use Rattle.ledger.proofs.table.node_at.Tie as tie
 
-pub node-at-spec : {M : Type 1} → statement M
+pub node_at_spec : {M : Type 1} → statement M
 unfolding at
-node-at-spec = tie.close (tie.spec
+node_at_spec = tie.close (tie.spec
     (λ c κs. tt)
-    (λ c. search needs)
+    (λ c. search rules)
     (λ c κs. tt)
     (λ c. cc))

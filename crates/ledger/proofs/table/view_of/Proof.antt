@@ -1,16 +1,16 @@
 -- A few numbers, the node and its children.
-use Rattle·rules.specs.Requests.{view}
-use Rattle·ledger·proofs.proofs.table.view_of.Statement.{statement}
-use Rattle·ledger·proofs.proofs.table.view_of.Tie as tie
+use Rattle.rules.specs.Requests.{view}
+use Rattle.ledger.proofs.table.view_of.Statement.{statement}
+use Rattle.ledger.proofs.table.view_of.Tie as tie
 
-pub view-of-spec : {M : Type 1} → statement M
+pub view_of_spec : {M : Type 1} → statement M
 unfolding view
-view-of-spec =
+view_of_spec =
     tie.close
     (tie.spec
     (λ c κs. tt)
     (λ c κs. tt)
     (λ c κs. tt)
     (λ c κs. tt)
-    (λ c κs. c .before .before .before .before .pre)
-    (λ c. let k = c .before .load-in .ensures in cc (k .0, k .1)))
+    (λ c κs. c.before.before.before.before.requires)
+    (λ c. let k = c.before.load-in.ensures in cc (k.0, k.1)))

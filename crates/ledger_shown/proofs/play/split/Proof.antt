@@ -1,45 +1,45 @@
 -- Each turn leaves fewer nodes.
-use borrow.Author.Needs.{needs}
-use Prim.Native.Nat.{_-_}
-use Rattle·ledger_shown·proofs.proofs.play.split.Statement.{statement}
-use Rattle·ledger_shown·proofs.proofs.play.split.Tie as tie
+use borrow.Author.Rules.{rules}
+use Prim.Native.Nat.{◌-◌}
+use Rattle.ledger_shown.proofs.play.split.Statement.{statement}
+use Rattle.ledger_shown.proofs.play.split.Tie as tie
 
-abbrev Inv-loop : tie.InvT-loop
-Inv-loop owner thief l₀ n₀ end l n = Unit
+abbrev invariant-loop : tie.invariant-loop
+invariant-loop owner thief l₀ n₀ end l n = Unit
 
-abbrev μ-loop : tie.MeasureT-loop
-μ-loop owner thief l₀ n₀ end l n = end - n
+abbrev decreases-loop : tie.decreases-loop
+decreases-loop owner thief l₀ n₀ end l n = end - n
 
-lesser-requires : tie.Need-lesser-requires Inv-loop μ-loop
-lesser-requires c κs = search needs
+lesser-requires : tie.Need-lesser-requires invariant-loop decreases-loop
+lesser-requires c κs = search rules
 
-loop-holds : tie.Need-loop-holds Inv-loop μ-loop
-loop-holds c = search needs
+loop-holds : tie.Need-loop-init invariant-loop decreases-loop
+loop-holds c = search rules
 
-to-signed-requires : tie.Need-to-signed-requires Inv-loop μ-loop
-to-signed-requires c κs = search needs
+to-signed-requires : tie.Need-to-signed-requires invariant-loop decreases-loop
+to-signed-requires c κs = search rules
 
-parted-requires : tie.Need-parted-requires Inv-loop μ-loop
-parted-requires c κs = search needs
+parted-requires : tie.Need-parted-requires invariant-loop decreases-loop
+parted-requires c κs = search rules
 
-add-n : tie.Need-add-n Inv-loop μ-loop
-add-n c = search needs
+add-n : tie.Need-overflow-add-n invariant-loop decreases-loop
+add-n c = search rules
 
-loop-less : tie.Need-loop-less Inv-loop μ-loop
-loop-less c = search needs
+loop-less : tie.Need-loop-smaller invariant-loop decreases-loop
+loop-less c = search rules
 
-loop-again : tie.Need-loop-again Inv-loop μ-loop
-loop-again c = search needs
+loop-again : tie.Need-loop-preserved invariant-loop decreases-loop
+loop-again c = search rules
 
-returns : tie.Need-returns Inv-loop μ-loop
-returns c = search needs
+returns : tie.Need-returns invariant-loop decreases-loop
+returns c = search rules
 
-pub split-spec : {M : Type 1} → statement M
-split-spec =
+pub split_spec : {M : Type 1} → statement M
+split_spec =
     tie.close
     (tie.spec
-    Inv-loop
-    μ-loop
+    invariant-loop
+    decreases-loop
     lesser-requires
     loop-holds
     to-signed-requires

@@ -1,29 +1,29 @@
 -- Each turn leaves less of the word.
-use borrow.Author.Needs.{needs}
-use Rattle·ledger_shown·proofs.proofs.print.word.Statement.{statement}
-use Rattle·ledger_shown·proofs.proofs.print.word.Tie as tie
+use borrow.Author.Rules.{rules}
+use Rattle.ledger_shown.proofs.print.word.Statement.{statement}
+use Rattle.ledger_shown.proofs.print.word.Tie as tie
 
-abbrev Inv-loop : tie.InvT-loop
-Inv-loop w rest₀ rest = Unit
+abbrev invariant-loop : tie.invariant-loop
+invariant-loop w rest₀ rest = Unit
 
-abbrev μ-loop : tie.MeasureT-loop
-μ-loop w rest₀ rest = rest
+abbrev decreases-loop : tie.decreases-loop
+decreases-loop w rest₀ rest = rest
 
-loop-holds : tie.Need-loop-holds Inv-loop μ-loop
-loop-holds c = search needs
+loop-holds : tie.Need-loop-init invariant-loop decreases-loop
+loop-holds c = search rules
 
-byte-requires : tie.Need-byte-requires Inv-loop μ-loop
-byte-requires c κs = search needs
+byte-requires : tie.Need-byte-requires invariant-loop decreases-loop
+byte-requires c κs = search rules
 
-loop-less : tie.Need-loop-less Inv-loop μ-loop
-loop-less c = search needs
+loop-less : tie.Need-loop-smaller invariant-loop decreases-loop
+loop-less c = search rules
 
-loop-again : tie.Need-loop-again Inv-loop μ-loop
-loop-again c = search needs
+loop-again : tie.Need-loop-preserved invariant-loop decreases-loop
+loop-again c = search rules
 
-returns : tie.Need-returns Inv-loop μ-loop
-returns c = search needs
+returns : tie.Need-returns invariant-loop decreases-loop
+returns c = search rules
 
-pub word-spec : {M : Type 1} → statement M
-word-spec =
-    tie.close (tie.spec Inv-loop μ-loop loop-holds byte-requires loop-less loop-again returns)
+pub word_spec : {M : Type 1} → statement M
+word_spec =
+    tie.close (tie.spec invariant-loop decreases-loop loop-holds byte-requires loop-less loop-again returns)

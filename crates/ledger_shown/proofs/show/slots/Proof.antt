@@ -1,60 +1,60 @@
 -- The loop goes over the slots of the table.
-use borrow.Author.Needs.{needs}
-use Prim.Native.Nat.{_-_}
-use Rattle·ledger_shown·proofs.proofs.show.slots.Statement.{statement}
-use Rattle·ledger_shown·proofs.proofs.show.slots.Tie as tie
+use borrow.Author.Rules.{rules}
+use Prim.Native.Nat.{◌-◌}
+use Rattle.ledger_shown.proofs.show.slots.Statement.{statement}
+use Rattle.ledger_shown.proofs.show.slots.Tie as tie
 
-abbrev Inv-loop : tie.InvT-loop
-Inv-loop named from l same₀ i₀ same i = Unit
+abbrev invariant-loop : tie.invariant-loop
+invariant-loop named from l same₀ i₀ same i = Unit
 
-abbrev μ-loop : tie.MeasureT-loop
-μ-loop named from l same₀ i₀ same i = 1023 - i
+abbrev decreases-loop : tie.decreases-loop
+decreases-loop named from l same₀ i₀ same i = 1023 - i
 
-same-numbers-requires : tie.Need-same-numbers-requires Inv-loop μ-loop
-same-numbers-requires c κs = search needs
+same-numbers-requires : tie.Need-same-numbers-requires invariant-loop decreases-loop
+same-numbers-requires c κs = search rules
 
-loop-holds : tie.Need-loop-holds Inv-loop μ-loop
-loop-holds c = search needs
+loop-holds : tie.Need-loop-init invariant-loop decreases-loop
+loop-holds c = search rules
 
-cast-n : tie.Need-cast-n Inv-loop μ-loop
-cast-n c = search needs
+cast-n : tie.Need-overflow-cast-n invariant-loop decreases-loop
+cast-n c = search rules
 
-add-n : tie.Need-add-n Inv-loop μ-loop
-add-n c = search needs
+add-n : tie.Need-overflow-add-n invariant-loop decreases-loop
+add-n c = search rules
 
-mul-slot : tie.Need-mul-slot Inv-loop μ-loop
-mul-slot c = search needs
+mul-slot : tie.Need-overflow-mul-slot invariant-loop decreases-loop
+mul-slot c = search rules
 
-element-copy-out-slot : tie.Need-element-copy-out-slot Inv-loop μ-loop
-element-copy-out-slot c = search needs
+element-copy-out-slot : tie.Need-element-copy-out-slot invariant-loop decreases-loop
+element-copy-out-slot c = search rules
 
-mul-slot-2 : tie.Need-mul-slot-2 Inv-loop μ-loop
-mul-slot-2 c = search needs
+mul-slot-2 : tie.Need-overflow-mul-slot-2 invariant-loop decreases-loop
+mul-slot-2 c = search rules
 
-element-copy-out-slot-2 : tie.Need-element-copy-out-slot-2 Inv-loop μ-loop
-element-copy-out-slot-2 c = search needs
+element-copy-out-slot-2 : tie.Need-element-copy-out-slot-2 invariant-loop decreases-loop
+element-copy-out-slot-2 c = search rules
 
-slot-requires : tie.Need-slot-requires Inv-loop μ-loop
-slot-requires c κs = search needs
+slot-requires : tie.Need-slot-requires invariant-loop decreases-loop
+slot-requires c κs = search rules
 
-add-i : tie.Need-add-i Inv-loop μ-loop
-add-i c = search needs
+add-i : tie.Need-overflow-add-i invariant-loop decreases-loop
+add-i c = search rules
 
-loop-less : tie.Need-loop-less Inv-loop μ-loop
-loop-less c = search needs
+loop-less : tie.Need-loop-smaller invariant-loop decreases-loop
+loop-less c = search rules
 
-loop-again : tie.Need-loop-again Inv-loop μ-loop
-loop-again c = search needs
+loop-again : tie.Need-loop-preserved invariant-loop decreases-loop
+loop-again c = search rules
 
-returns : tie.Need-returns Inv-loop μ-loop
-returns c = search needs
+returns : tie.Need-returns invariant-loop decreases-loop
+returns c = search rules
 
-pub slots-spec : {M : Type 1} → statement M
-slots-spec =
+pub slots_spec : {M : Type 1} → statement M
+slots_spec =
     tie.close
     (tie.spec
-    Inv-loop
-    μ-loop
+    invariant-loop
+    decreases-loop
     same-numbers-requires
     loop-holds
     cast-n

@@ -1,59 +1,59 @@
 -- The invariant: k is the count of the first i records.
 use native.Mathlib.Omega.{arith}
-use borrow.Author.Needs.{needs}
-use mathlib.Core.Path.{_≡_, sym}
-use Prim.Native.Nat.{_-_, _≤_}
-use lib.ListN.{getD}
-use Rattle·steps.specs.Records.{noTeam, isStopped}
-use Rattle·steps.specs.Run.{stoppedTo}
-use Rattle·listing_rules.proofs.Stopped.{none-yet, one-more, one-at-most}
-use Rattle·listing·proofs.proofs.run.stopped_in.Statement.{statement}
-use Rattle·listing·proofs.proofs.run.stopped_in.Tie as tie
+use borrow.Author.Rules.{rules}
+use mathlib.Core.Path.{◌≡◌, sym}
+use Prim.Native.Nat.{◌-◌, ◌≤◌}
+use lib.ListN.{get_or}
+use Rattle.steps.specs.Records.{no_team, is_stopped}
+use Rattle.steps.specs.Run.{stopped_to}
+use Rattle.listing_rules.proofs.Stopped.{none_yet, one_more, one_at_most}
+use Rattle.listing.proofs.run.stopped_in.Statement.{statement}
+use Rattle.listing.proofs.run.stopped_in.Tie as tie
 
-abbrev Inv-loop : tie.InvT-loop
-Inv-loop count teams k₀ i₀ k i = (i ≤ count) × (k ≤ i) × (k ≡ stoppedTo teams i)
+abbrev invariant-loop : tie.invariant-loop
+invariant-loop count teams k₀ i₀ k i = (i ≤ count) × (k ≤ i) × (k ≡ stopped_to teams i)
 
-abbrev μ-loop : tie.MeasureT-loop
-μ-loop count teams k₀ i₀ k i = count - i
+abbrev decreases-loop : tie.decreases-loop
+decreases-loop count teams k₀ i₀ k i = count - i
 
-loop-holds : tie.Need-loop-holds Inv-loop μ-loop
-loop-holds c = (omega arith, omega arith, sym (none-yet (c .args .t1)))
+loop-holds : tie.Need-loop-init invariant-loop decreases-loop
+loop-holds c = (omega arith, omega arith, sym (none_yet c.args.t1))
 
-cast-slot : tie.Need-cast-slot Inv-loop μ-loop
-cast-slot c = search needs
+cast-slot : tie.Need-overflow-cast-slot invariant-loop decreases-loop
+cast-slot c = search rules
 
-mul-t : tie.Need-mul-t Inv-loop μ-loop
-mul-t c = search needs
+mul-t : tie.Need-overflow-mul-t invariant-loop decreases-loop
+mul-t c = search rules
 
-array-copy-out-t : tie.Need-array-copy-out-t Inv-loop μ-loop
-array-copy-out-t c = search needs
+array-copy-out-t : tie.Need-array-copy-out-t invariant-loop decreases-loop
+array-copy-out-t c = search rules
 
-stopped-one-requires : tie.Need-stopped-one-requires Inv-loop μ-loop
-stopped-one-requires c κs = search needs
+stopped-one-requires : tie.Need-stopped-one-requires invariant-loop decreases-loop
+stopped-one-requires c κs = search rules
 
-add-k : tie.Need-add-k Inv-loop μ-loop
-add-k c = let l = c .before .before .before in
-    omega (arith, c .stopped-one .ensures, one-at-most (isStopped (getD (l .before .args .t1) (l .loop .i) noTeam .place)))
+add-k : tie.Need-overflow-add-k invariant-loop decreases-loop
+add-k c = let l = c.before.before.before in
+    omega (arith, c.stopped-one.ensures, one_at_most (is_stopped (get_or l.before.args.t1 l.loop.i no_team).place))
 
-add-i : tie.Need-add-i Inv-loop μ-loop
-add-i c = search needs
+add-i : tie.Need-overflow-add-i invariant-loop decreases-loop
+add-i c = search rules
 
-loop-less : tie.Need-loop-less Inv-loop μ-loop
-loop-less c = search needs
+loop-less : tie.Need-loop-smaller invariant-loop decreases-loop
+loop-less c = search rules
 
-loop-again : tie.Need-loop-again Inv-loop μ-loop
-loop-again c = let l = c .before .before .before in let rs = l .before .args .t1 in let i = l .loop .i in
-    (omega arith, omega (arith, c .stopped-one .ensures, one-at-most (isStopped (getD rs i noTeam .place))), omega (arith, c .stopped-one .ensures, one-more rs i))
+loop-again : tie.Need-loop-preserved invariant-loop decreases-loop
+loop-again c = let l = c.before.before.before in let rs = l.before.args.t1 in let i = l.loop.i in
+    (omega arith, omega (arith, c.stopped-one.ensures, one_at_most (is_stopped (get_or rs i no_team).place)), omega (arith, c.stopped-one.ensures, one_more rs i))
 
-returns : tie.Need-returns Inv-loop μ-loop
-returns c = let e : c .before .loop .i ≡ c .before .before .args .count = omega arith in rw e at (c .before .loop .inv .2)
+returns : tie.Need-returns invariant-loop decreases-loop
+returns c = let e : c.before.loop.i ≡ c.before.before.args.count = omega arith in rw e at c.before.loop.invariant.2
 
-pub stopped-in-spec : {M : Type 1} → statement M
-stopped-in-spec =
+pub stopped_in_spec : {M : Type 1} → statement M
+stopped_in_spec =
     tie.close
     (tie.spec
-    Inv-loop
-    μ-loop
+    invariant-loop
+    decreases-loop
     loop-holds
     cast-slot
     mul-t

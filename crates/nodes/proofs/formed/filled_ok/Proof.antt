@@ -1,9 +1,9 @@
 -- A count within its limits, with labels that pass 33.
-use Rattle·nodes·proofs.proofs.formed.filled_ok.Statement.{statement}
-use Rattle·nodes·proofs.proofs.formed.filled_ok.Tie as tie
+use Rattle.nodes.proofs.formed.filled_ok.Statement.{statement}
+use Rattle.nodes.proofs.formed.filled_ok.Tie as tie
 
-pub filled-ok-spec : {M : Type 1} → statement M
-filled-ok-spec =
+pub filled_ok_spec : {M : Type 1} → statement M
+filled_ok_spec =
     tie.close
     (tie.spec
     (λ c κs. tt)

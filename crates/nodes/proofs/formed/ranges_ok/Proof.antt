@@ -1,9 +1,9 @@
 -- The ranges that a split gives.
-use Rattle·nodes·proofs.proofs.formed.ranges_ok.Statement.{statement}
-use Rattle·nodes·proofs.proofs.formed.ranges_ok.Tie as tie
+use Rattle.nodes.proofs.formed.ranges_ok.Statement.{statement}
+use Rattle.nodes.proofs.formed.ranges_ok.Tie as tie
 
-pub ranges-ok-spec : {M : Type 1} → statement M
-ranges-ok-spec = tie.close (tie.spec
+pub ranges_ok_spec : {M : Type 1} → statement M
+ranges_ok_spec = tie.close (tie.spec
     (λ c κs. tt)
     (λ c κs. tt)
     (λ c. cc))

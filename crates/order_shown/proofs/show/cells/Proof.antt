@@ -1,34 +1,34 @@
 -- The next sheet never passes the piece's end.
-use borrow.Author.Needs.{needs}
-use Prim.Native.Nat.{_-_}
-use Rattle·order_shown·proofs.proofs.show.cells.Statement.{statement}
-use Rattle·order_shown·proofs.proofs.show.cells.Tie as tie
+use borrow.Author.Rules.{rules}
+use Prim.Native.Nat.{◌-◌}
+use Rattle.order_shown.proofs.show.cells.Statement.{statement}
+use Rattle.order_shown.proofs.show.cells.Tie as tie
 
-abbrev Inv-loop : tie.InvT-loop
-Inv-loop p row sheet₀ sheet = Unit
+abbrev invariant-loop : tie.invariant-loop
+invariant-loop p row sheet₀ sheet = Unit
 
-abbrev μ-loop : tie.MeasureT-loop
-μ-loop p row sheet₀ sheet = p .to - sheet
+abbrev decreases-loop : tie.decreases-loop
+decreases-loop p row sheet₀ sheet = p.to - sheet
 
-loop-holds : tie.Need-loop-holds Inv-loop μ-loop
+loop-holds : tie.Need-loop-init invariant-loop decreases-loop
 loop-holds c = tt
 
-cell-requires : tie.Need-cell-requires Inv-loop μ-loop
+cell-requires : tie.Need-cell-requires invariant-loop decreases-loop
 cell-requires c κs = tt
 
-add-sheet : tie.Need-add-sheet Inv-loop μ-loop
-add-sheet c = search needs
+add-sheet : tie.Need-overflow-add-sheet invariant-loop decreases-loop
+add-sheet c = search rules
 
-loop-less : tie.Need-loop-less Inv-loop μ-loop
-loop-less c = search needs
+loop-less : tie.Need-loop-smaller invariant-loop decreases-loop
+loop-less c = search rules
 
-loop-again : tie.Need-loop-again Inv-loop μ-loop
+loop-again : tie.Need-loop-preserved invariant-loop decreases-loop
 loop-again c = tt
 
-returns : tie.Need-returns Inv-loop μ-loop
+returns : tie.Need-returns invariant-loop decreases-loop
 returns c = tt
 
-pub cells-spec : {M : Type 1} → statement M
-cells-spec =
+pub cells_spec : {M : Type 1} → statement M
+cells_spec =
     tie.close
-    (tie.spec Inv-loop μ-loop loop-holds cell-requires add-sheet loop-less loop-again returns)
+    (tie.spec invariant-loop decreases-loop loop-holds cell-requires add-sheet loop-less loop-again returns)

@@ -1,20 +1,20 @@
 -- By what is remembered.
-use borrow.Author.Needs.{needs}
-use Rattle·steps.specs.Places.{chosen}
-use mathlib.Core.Path.{_∙_}
-use Rattle·places·proofs.proofs.Laws.{chooses-by}
-use Rattle·places·proofs.proofs.greatest.choose.Statement.{statement}
-use Rattle·places·proofs.proofs.greatest.choose.Tie as tie
+use borrow.Author.Rules.{rules}
+use Rattle.steps.specs.Places.{chosen}
+use mathlib.Core.Path.{◌∙◌}
+use Rattle.places.proofs.Laws.{chooses_by}
+use Rattle.places.proofs.greatest.choose.Statement.{statement}
+use Rattle.places.proofs.greatest.choose.Tie as tie
 
-pub choose-spec : {M : Type 1} → statement M
+pub choose_spec : {M : Type 1} → statement M
 unfolding chosen
-choose-spec = tie.close (tie.spec
-    (λ c. search needs)
+choose_spec = tie.close (tie.spec
+    (λ c. search rules)
     (λ c κs. tt)
-    (λ c. search needs)
+    (λ c. search rules)
     (λ c κs. tt)
-    (λ c. search needs)
+    (λ c. search rules)
     (λ c κs. tt)
-    (λ c. c .stop-here .ensures ∙ chooses-by _ _ (c .before .enum-told .given .1))
-    (λ c. c .take-at .ensures ∙ chooses-by _ _ (c .before .before .m .given .1))
-    (λ c. c .mark-at .ensures ∙ chooses-by _ _ (c .before .before .m2 .given .1)))
+    (λ c. c.stop-here.ensures ∙ chooses_by _ _ c.before.enum_told.given.1)
+    (λ c. c.take_at.ensures ∙ chooses_by _ _ c.before.before.m.given.1)
+    (λ c. c.mark-at.ensures ∙ chooses_by _ _ c.before.before.m2.given.1))

@@ -1,9 +1,9 @@
 -- Placed, then aimed.
-use Rattle·places·proofs.proofs.records.mark_at.Statement.{statement}
-use Rattle·places·proofs.proofs.records.mark_at.Tie as tie
+use Rattle.places.proofs.records.mark_at.Statement.{statement}
+use Rattle.places.proofs.records.mark_at.Tie as tie
 
-pub mark-at-spec : {M : Type 1} → statement M
-mark-at-spec = tie.close (tie.spec
+pub mark_at_spec : {M : Type 1} → statement M
+mark_at_spec = tie.close (tie.spec
     (λ c κs. tt)
     (λ c κs. tt)
-    (λ c. rw (c .aim-at .ensures, c .before .place-at .ensures)))
+    (λ c. rw (c.aim_at.ensures, c.before.place_at.ensures)))

@@ -1,9 +1,9 @@
 -- Placed at its node.
-use Rattle·places·proofs.proofs.records.place_here.Statement.{statement}
-use Rattle·places·proofs.proofs.records.place_here.Tie as tie
+use Rattle.places.proofs.records.place_here.Statement.{statement}
+use Rattle.places.proofs.records.place_here.Tie as tie
 
-pub place-here-spec : {M : Type 1} → statement M
-place-here-spec = tie.close (tie.spec
+pub place_here_spec : {M : Type 1} → statement M
+place_here_spec = tie.close (tie.spec
     (λ c κs. tt)
     (λ c κs. tt)
-    (λ c. rw (c .place-at .ensures, c .before .node-in .ensures)))
+    (λ c. rw (c.place_at.ensures, c.before.Node-in.ensures)))

@@ -1,9 +1,9 @@
 -- Placed at its node, and then turned to a side.
-use Rattle·places·proofs.proofs.records.split_here.Statement.{statement}
-use Rattle·places·proofs.proofs.records.split_here.Tie as tie
+use Rattle.places.proofs.records.split_here.Statement.{statement}
+use Rattle.places.proofs.records.split_here.Tie as tie
 
-pub split-here-spec : {M : Type 1} → statement M
-split-here-spec = tie.close (tie.spec
+pub split_here_spec : {M : Type 1} → statement M
+split_here_spec = tie.close (tie.spec
     (λ c κs. tt)
     (λ c κs. tt)
-    (λ c. rw (c .turn-to .ensures, c .before .place-here .ensures)))
+    (λ c. rw (c.turn-to.ensures, c.before.place_here.ensures)))

@@ -1,42 +1,42 @@
 -- The loop goes over the seven nodes.
-use borrow.Author.Needs.{needs}
-use Prim.Native.Nat.{_-_}
-use Rattle·reachable_shown·proofs.proofs.history.ascending.Statement.{statement}
-use Rattle·reachable_shown·proofs.proofs.history.ascending.Tie as tie
+use borrow.Author.Rules.{rules}
+use Prim.Native.Nat.{◌-◌}
+use Rattle.reachable_shown.proofs.history.ascending.Statement.{statement}
+use Rattle.reachable_shown.proofs.history.ascending.Tie as tie
 
-abbrev Inv-loop : tie.InvT-loop
-Inv-loop l pass list₀ n₀ list n = Unit
+abbrev invariant-loop : tie.invariant-loop
+invariant-loop l pass list₀ n₀ list n = Unit
 
-abbrev μ-loop : tie.MeasureT-loop
-μ-loop l pass list₀ n₀ list n = 8 - n
+abbrev decreases-loop : tie.decreases-loop
+decreases-loop l pass list₀ n₀ list n = 8 - n
 
-loop-holds : tie.Need-loop-holds Inv-loop μ-loop
+loop-holds : tie.Need-loop-init invariant-loop decreases-loop
 loop-holds c = tt
 
-node-requires : tie.Need-node-requires Inv-loop μ-loop
+node-requires : tie.Need-node-requires invariant-loop decreases-loop
 node-requires c κs = tt
 
-asked-requires : tie.Need-asked-requires Inv-loop μ-loop
+asked-requires : tie.Need-asked-requires invariant-loop decreases-loop
 asked-requires c κs = tt
 
-add-n : tie.Need-add-n Inv-loop μ-loop
-add-n c = search needs
+add-n : tie.Need-overflow-add-n invariant-loop decreases-loop
+add-n c = search rules
 
-loop-less : tie.Need-loop-less Inv-loop μ-loop
-loop-less c = search needs
+loop-less : tie.Need-loop-smaller invariant-loop decreases-loop
+loop-less c = search rules
 
-loop-again : tie.Need-loop-again Inv-loop μ-loop
+loop-again : tie.Need-loop-preserved invariant-loop decreases-loop
 loop-again c = tt
 
-returns : tie.Need-returns Inv-loop μ-loop
+returns : tie.Need-returns invariant-loop decreases-loop
 returns c = tt
 
-pub ascending-spec : {M : Type 1} → statement M
-ascending-spec =
+pub ascending_spec : {M : Type 1} → statement M
+ascending_spec =
     tie.close
     (tie.spec
-    Inv-loop
-    μ-loop
+    invariant-loop
+    decreases-loop
     loop-holds
     node-requires
     asked-requires

@@ -1,51 +1,51 @@
 -- The loop claims a batch each time, up to the position.
-use borrow.Author.Needs.{needs}
-use Prim.Native.Nat.{_-_}
-use Rattle·reachable_shown·proofs.proofs.history.claims.Statement.{statement}
-use Rattle·reachable_shown·proofs.proofs.history.claims.Tie as tie
+use borrow.Author.Rules.{rules}
+use Prim.Native.Nat.{◌-◌}
+use Rattle.reachable_shown.proofs.history.claims.Statement.{statement}
+use Rattle.reachable_shown.proofs.history.claims.Tie as tie
 
-abbrev Inv-loop : tie.InvT-loop
-Inv-loop n list₀ owner end p₀ list p = Unit
+abbrev invariant-loop : tie.invariant-loop
+invariant-loop n list₀ owner end p₀ list p = Unit
 
-abbrev μ-loop : tie.MeasureT-loop
-μ-loop n list₀ owner end p₀ list p = end - p
+abbrev decreases-loop : tie.decreases-loop
+decreases-loop n list₀ owner end p₀ list p = end - p
 
-position-of-requires : tie.Need-position-of-requires Inv-loop μ-loop
+position-of-requires : tie.Need-position-of-requires invariant-loop decreases-loop
 position-of-requires c κs = tt
 
-loop-holds : tie.Need-loop-holds Inv-loop μ-loop
+loop-holds : tie.Need-loop-init invariant-loop decreases-loop
 loop-holds c = tt
 
-less-by-requires : tie.Need-less-by-requires Inv-loop μ-loop
+less-by-requires : tie.Need-less-by-requires invariant-loop decreases-loop
 less-by-requires c κs = tt
 
-lesser-requires : tie.Need-lesser-requires Inv-loop μ-loop
+lesser-requires : tie.Need-lesser-requires invariant-loop decreases-loop
 lesser-requires c κs = tt
 
-advance-requires : tie.Need-advance-requires Inv-loop μ-loop
+advance-requires : tie.Need-advance-requires invariant-loop decreases-loop
 advance-requires c κs = tt
 
-add-requires : tie.Need-add-requires Inv-loop μ-loop
+add-requires : tie.Need-add-requires invariant-loop decreases-loop
 add-requires c κs = tt
 
-add-p : tie.Need-add-p Inv-loop μ-loop
-add-p c = search needs
+add-p : tie.Need-overflow-add-p invariant-loop decreases-loop
+add-p c = search rules
 
-loop-less : tie.Need-loop-less Inv-loop μ-loop
-loop-less c = search needs
+loop-less : tie.Need-loop-smaller invariant-loop decreases-loop
+loop-less c = search rules
 
-loop-again : tie.Need-loop-again Inv-loop μ-loop
+loop-again : tie.Need-loop-preserved invariant-loop decreases-loop
 loop-again c = tt
 
-returns : tie.Need-returns Inv-loop μ-loop
+returns : tie.Need-returns invariant-loop decreases-loop
 returns c = tt
 
-pub claims-spec : {M : Type 1} → statement M
-claims-spec =
+pub claims_spec : {M : Type 1} → statement M
+claims_spec =
     tie.close
     (tie.spec
-    Inv-loop
-    μ-loop
+    invariant-loop
+    decreases-loop
     position-of-requires
     loop-holds
     less-by-requires

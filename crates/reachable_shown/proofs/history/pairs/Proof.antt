@@ -1,34 +1,34 @@
 -- The loop goes over the three pairs.
-use borrow.Author.Needs.{needs}
-use Prim.Native.Nat.{_-_}
-use Rattle·reachable_shown·proofs.proofs.history.pairs.Statement.{statement}
-use Rattle·reachable_shown·proofs.proofs.history.pairs.Tie as tie
+use borrow.Author.Rules.{rules}
+use Prim.Native.Nat.{◌-◌}
+use Rattle.reachable_shown.proofs.history.pairs.Statement.{statement}
+use Rattle.reachable_shown.proofs.history.pairs.Tie as tie
 
-abbrev Inv-loop : tie.InvT-loop
-Inv-loop l list₀ child₀ list child = Unit
+abbrev invariant-loop : tie.invariant-loop
+invariant-loop l list₀ child₀ list child = Unit
 
-abbrev μ-loop : tie.MeasureT-loop
-μ-loop l list₀ child₀ list child = 8 - child
+abbrev decreases-loop : tie.decreases-loop
+decreases-loop l list₀ child₀ list child = 8 - child
 
-loop-holds : tie.Need-loop-holds Inv-loop μ-loop
+loop-holds : tie.Need-loop-init invariant-loop decreases-loop
 loop-holds c = tt
 
-parts-requires : tie.Need-parts-requires Inv-loop μ-loop
+parts-requires : tie.Need-parts-requires invariant-loop decreases-loop
 parts-requires c κs = tt
 
-add-child : tie.Need-add-child Inv-loop μ-loop
-add-child c = search needs
+add-child : tie.Need-overflow-add-child invariant-loop decreases-loop
+add-child c = search rules
 
-loop-less : tie.Need-loop-less Inv-loop μ-loop
-loop-less c = search needs
+loop-less : tie.Need-loop-smaller invariant-loop decreases-loop
+loop-less c = search rules
 
-loop-again : tie.Need-loop-again Inv-loop μ-loop
+loop-again : tie.Need-loop-preserved invariant-loop decreases-loop
 loop-again c = tt
 
-returns : tie.Need-returns Inv-loop μ-loop
+returns : tie.Need-returns invariant-loop decreases-loop
 returns c = tt
 
-pub pairs-spec : {M : Type 1} → statement M
-pairs-spec =
+pub pairs_spec : {M : Type 1} → statement M
+pairs_spec =
     tie.close
-    (tie.spec Inv-loop μ-loop loop-holds parts-requires add-child loop-less loop-again returns)
+    (tie.spec invariant-loop decreases-loop loop-holds parts-requires add-child loop-less loop-again returns)

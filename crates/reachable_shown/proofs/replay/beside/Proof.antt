@@ -1,34 +1,34 @@
 -- The loop goes over the seven nodes.
-use borrow.Author.Needs.{needs}
-use Prim.Native.Nat.{_-_}
-use Rattle·reachable_shown·proofs.proofs.replay.beside.Statement.{statement}
-use Rattle·reachable_shown·proofs.proofs.replay.beside.Tie as tie
+use borrow.Author.Rules.{rules}
+use Prim.Native.Nat.{◌-◌}
+use Rattle.reachable_shown.proofs.replay.beside.Statement.{statement}
+use Rattle.reachable_shown.proofs.replay.beside.Tie as tie
 
-abbrev Inv-loop : tie.InvT-loop
-Inv-loop m l n₀ n = Unit
+abbrev invariant-loop : tie.invariant-loop
+invariant-loop m l n₀ n = Unit
 
-abbrev μ-loop : tie.MeasureT-loop
-μ-loop m l n₀ n = 8 - n
+abbrev decreases-loop : tie.decreases-loop
+decreases-loop m l n₀ n = 8 - n
 
-loop-holds : tie.Need-loop-holds Inv-loop μ-loop
+loop-holds : tie.Need-loop-init invariant-loop decreases-loop
 loop-holds c = tt
 
-line-requires : tie.Need-line-requires Inv-loop μ-loop
+line-requires : tie.Need-line-requires invariant-loop decreases-loop
 line-requires c κs = tt
 
-add-n : tie.Need-add-n Inv-loop μ-loop
-add-n c = search needs
+add-n : tie.Need-overflow-add-n invariant-loop decreases-loop
+add-n c = search rules
 
-loop-less : tie.Need-loop-less Inv-loop μ-loop
-loop-less c = search needs
+loop-less : tie.Need-loop-smaller invariant-loop decreases-loop
+loop-less c = search rules
 
-loop-again : tie.Need-loop-again Inv-loop μ-loop
+loop-again : tie.Need-loop-preserved invariant-loop decreases-loop
 loop-again c = tt
 
-returns : tie.Need-returns Inv-loop μ-loop
+returns : tie.Need-returns invariant-loop decreases-loop
 returns c = tt
 
-pub beside-spec : {M : Type 1} → statement M
-beside-spec =
+pub beside_spec : {M : Type 1} → statement M
+beside_spec =
     tie.close
-    (tie.spec Inv-loop μ-loop loop-holds line-requires add-n loop-less loop-again returns)
+    (tie.spec invariant-loop decreases-loop loop-holds line-requires add-n loop-less loop-again returns)
