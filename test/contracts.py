@@ -23,13 +23,25 @@ class Function:
     def __init__(self, crate, name, header):
         self.crate, self.name, self.last = crate, crate + '::' + name, name.split('::')[-1]
         self.asks = re.search(r'^\s*requires\b', header, re.M) is not None
-        self.says = re.findall(r'ensures(?:\s+\w+)?\s*\{\s*λ\s*(\S+)\.\s*⌜(.*?)⌝\s*\}', header, re.S)
+        self.says = clauses(header)
 
     def has_condition(self):
         """Whether some part of the contract holds under a condition only. A fact beside an equation for the result takes nothing from it."""
-        is_equation = any(is_equation_for(binder, formula) for binder, formula in self.says)
+        is_equation = any(is_equation_for_result(formula) for formula in self.says)
         return self.asks or any(
-            is_conditional(part) and ('.exit' in part or not is_equation) for _, formula in self.says for part in parts(formula, '×'))
+            is_conditional(part) and ('.new' in part or not is_equation) for formula in self.says for part in parts(formula, '×'))
+
+
+def clauses(header):
+    """What the ensures clauses say: each formula between its braces."""
+    found = []
+    for clause in re.finditer(r'^\s*ensures(?:\s+\w+)?\s*\{', header, re.M):
+        depth, at = 1, clause.end()
+        while depth and at < len(header):
+            depth += (header[at] == '{') - (header[at] == '}')
+            at += 1
+        found.append(header[clause.end():at - 1].strip())
+    return found
 
 
 def stripped(formula):
@@ -65,8 +77,8 @@ def is_conditional(formula):
     return len(parts(formula, '→')) > 1
 
 
-def is_equation_for(binder, formula):
-    return any(re.match(re.escape(binder) + r'\s*≡', part) is not None for part in parts(formula, '×'))
+def is_equation_for_result(formula):
+    return any(re.match(r'result\s*≡', part) is not None for part in parts(formula, '×'))
 
 
 def functions():
@@ -85,7 +97,7 @@ def functions_in(crate, lines):
         block = re.match(r'impl(?:<[^>]*>)?\s+(\w+)', line)
         if block or line == '}':
             of_type = block.group(1) + '::' if block else ''
-        opened = re.match(r'\s*pub (?:extern "C" )?fn (\w+)', line)
+        opened = re.match(r'\s*pub (?:unsafe )?(?:extern "C" )?fn (\w+)', line)
         if opened:
             found.append(Function(crate, of_type + opened.group(1), header_from(lines[at:])))
     return found

@@ -1,5 +1,5 @@
 #!/bin/bash
-# Tries the must-fail edits of one crate over its incremental folder, in seconds each: for the loop. The verdict is the gate's, `rt ci`.
+# Tries the must-fail edits of one crate over what its check kept, in seconds each: for the loop. The verdict is the gate's, `rt ci`.
 #
 #   test/edits.sh NAME [LABEL..]
 #
@@ -31,28 +31,21 @@ done
 work=$(mktemp -d) || exit 2
 trap 'rm -rf "$work"' EXIT
 
-# Without an edit the crate is proved; this also proves what it stands on, and fills the incremental folder.
-(cd "$here" && rt dev "$name") >"$work/log" 2>&1 || {
+# A tree that is this one, without what checks left in it. Without an edit the crate is proved there; this also proves what it stands on,
+# and keeps what the edits begin with.
+mkdir "$work/tree" || exit 2
+tar -C "$here" --exclude=out -cf - crates.txt crates | tar -C "$work/tree" -xf - || exit 2
+check() { (cd "$work/tree/crates/$name" && rt check) >"$work/log" 2>&1; }
+check || {
     grep -m 5 -e ': error' -e '^rt: ' "$work/log"
-    die "without an edit $name is not proved: 'rt dev $name' says why"
+    die "without an edit $name is not proved: 'rt check' in crates/$name says why"
 }
-
-# A tree that is this one, save for a copy of the crate.
-mkdir "$work/tree" "$work/tree/crates" "$work/tree/target" || exit 2
-cp "$here/crates.txt" "$work/tree/" || exit 2
-for other in "$here"/crates/*; do
-    [ "$other" = "$crate" ] || ln -s "$other" "$work/tree/crates/"
-done
-for part in rlib stamp inc; do
-    ln -s "$here/target/$part" "$work/tree/target/$part"
-done
 
 # Copies the crate afresh and makes the edit there, as `rt must-fail` does: each 'old:' text stands in its file once. Says what is bad.
 edited() { # LABEL
-    rm -rf "$work/tree/crates/$name"
-    mkdir "$work/tree/crates/$name" || return
     local part
     for part in src specs proofs; do
+        rm -rf "$work/tree/crates/$name/$part" || return
         [ ! -d "$crate/$part" ] || cp -R "$crate/$part" "$work/tree/crates/$name/" || return
     done
     python3 - "$crate/must-fail/$1.edit" "$work/tree/crates/$name" <<'END'
@@ -96,7 +89,7 @@ for label; do
         continue
     fi
     began=$SECONDS
-    (cd "$work/tree" && rt dev "$name") >"$work/log" 2>&1
+    check
     status=$?
     took=$((SECONDS - began))
     if [ "$status" -eq 0 ]; then
@@ -109,7 +102,7 @@ for label; do
     else
         first=$(first_error)
         echo "$name/$label: refused ($took s): ${first:0:${RT_CUT:-600}}"
-        if grep -q -e 'that can be named from here' -e 'not in scope' -e 'has no field' -e 'has no clause' -e 'has no item' -e 'expected type `tie\.Need-' <<<"$first"; then
+        if grep -q -e 'that can be named from here' -e 'not in scope' -e 'has no field' -e 'has no clause' -e 'has no item' -e 'are not asked for' <<<"$first"; then
             echo "$name/$label: WARNING: the first error is about a name or the shape of a proof, and no fact that fails to hold"
         fi
     fi

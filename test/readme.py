@@ -58,7 +58,7 @@ def faults(page):
                     yield '%s does not give %s.out' % (command, example.group(1))
     if examples == 0:
         yield 'it shows no command that runs an example'
-    table = run('python3 -B test/programs.py target/bin/sheets $(test/runner.sh)')
+    table = run('python3 -B test/programs.py crates/sheets/out/sheets $(test/runner.sh)')
     if table.returncode != 0 or any(line not in page for line in table.stdout.splitlines()):
         yield 'its table of the two programs is not that of test/programs.py'
     for script in sorted(set(re.findall(r'(?<![\w/])' + SCRIPTS + r'(?=[\s`])', page))):
