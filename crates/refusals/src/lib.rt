@@ -53,7 +53,7 @@ fn good_report(r: Request) -> bool
 }
 
 // The sums are taken in 64 bits, where no number of a view can make them wrap.
-fn no_room_lem(v: View) -> bool
+fn no_room(v: View) -> bool
     ensures { result ≡ no_room v }
 {
     (v.room as u64) < (v.used as u64) + 2 * (v.stolen as u64) + 2
@@ -83,7 +83,7 @@ fn mark_code(v: View, r: Request) -> u32
     ensures { result ≡ mark_code v r }
 {
     let x = v.node;
-    let c14 = numbers::pick(no_room_lem(v), 14, 0);
+    let c14 = numbers::pick(no_room(v), 14, 0);
     let c10 = numbers::pick(!at_progress(x, r), 10, c14);
     let c6 = numbers::pick(nodes::is_completed(x), 6, c10);
     let c9 = numbers::pick(nodes::is_marked(x), 9, c6);
