@@ -36,7 +36,7 @@ with_node-then-requires t c =
     let a = c.args in
     let some : childless (at a.l a.n) ≡ false = cc in
     let kids = children a.l a.granted a.n c.requires some in
-    (omega (arith, c.decreases), kids.0)
+    (omega (arith, c.decreases), search (kids.0, kids.1))
 
 pub with_node-requires : goal.with_node-requires
 unfolding at
@@ -44,7 +44,7 @@ with_node-requires t c =
     let a = c.args in
     let some : childless (at a.l a.n) ≡ false = cc in
     let kids = children a.l a.granted a.n c.requires some in
-    (omega (arith, c.decreases), kids.1)
+    (omega (arith, c.decreases), search (kids.0, kids.1))
 
 pub returns : goal.returns
 unfolding at
