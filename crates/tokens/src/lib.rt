@@ -28,6 +28,7 @@ pub fn is_blank(b: u8) -> bool
 }
 
 // The place of the line end that closes a comment, or the text's end.
+#[tactic(auto, using(crate::proofs::Fronts::comment_over, crate::proofs::Fronts::comment_more))]
 pub fn comment_end(text: &[u8], from: usize) -> usize
     ensures { result ≡ comment_end text.now from }
 {

@@ -1,5 +1,5 @@
 -- The ways out of a request.
-use Rattle.std.proofs.Common.{rules, sym, ap, ◌∙◌}
+use Rattle.std.proofs.Common.{rules, arith, sym, ap, ◌∙◌}
 use lib.IntN.{pos}
 use mir.Facts.{to_z-of_z}
 use Rattle.numbers.specs.Fields.{nat_of}
@@ -25,7 +25,7 @@ returns-then-answer-lt-ANSWER-clause-code c =
     let r = request a.kind a.team a.node a.position a.amount a.count a.first a.last in
     let bs = a.ledger.now in
     let out = a.answer.now in
-    ap pos (few bs out r c.if-answer-lt-ANSWER.true).code
+    ap pos (few bs out r (omega (arith, c.if-answer-lt-ANSWER.true))).code
 
 pub returns-then-answer-lt-ANSWER-clause-area : goal.returns-then-answer-lt-ANSWER-clause-area
 returns-then-answer-lt-ANSWER-clause-area c =
@@ -34,7 +34,7 @@ returns-then-answer-lt-ANSWER-clause-area c =
     let r = request a.kind a.team a.node a.position a.amount a.count a.first a.last in
     let bs = a.ledger.now in
     let out = a.answer.now in
-    (few bs out r c.if-answer-lt-ANSWER.true).area
+    (few bs out r (omega (arith, c.if-answer-lt-ANSWER.true))).area
 
 pub returns-then-answer-lt-ANSWER-clause-out : goal.returns-then-answer-lt-ANSWER-clause-out
 returns-then-answer-lt-ANSWER-clause-out c =
@@ -43,7 +43,7 @@ returns-then-answer-lt-ANSWER-clause-out c =
     let r = request a.kind a.team a.node a.position a.amount a.count a.first a.last in
     let bs = a.ledger.now in
     let out = a.answer.now in
-    (few bs out r c.if-answer-lt-ANSWER.true).answer
+    (few bs out r (omega (arith, c.if-answer-lt-ANSWER.true))).answer
 
 -- ---- an area that does not pass
 
@@ -55,7 +55,7 @@ returns-then-j-ne0-clause-code c =
     let bs = a.ledger.now in
     let out = a.answer.now in
     let k = code_of bs c.judge-j.ensures in
-    let stays = unformed bs out r c.if-answer-lt-ANSWER.false (λ z. c.if-j-ne0.true (k ∙ z)) in
+    let stays = unformed bs out r (omega (arith, c.if-answer-lt-ANSWER.false)) (λ z. c.if-j-ne0.true (k ∙ z)) in
     let number = told c.to_signed.result (search rules) ∙ (c.to_signed.ensures ∙ (ap signed k ∙ as_number (formed_code bs) (few_codes bs))) in
     number ∙ ap pos stays.code
 
@@ -67,7 +67,7 @@ returns-then-j-ne0-clause-area c =
     let bs = a.ledger.now in
     let out = a.answer.now in
     let k = code_of bs c.judge-j.ensures in
-    let stays = unformed bs out r c.if-answer-lt-ANSWER.false (λ z. c.if-j-ne0.true (k ∙ z)) in
+    let stays = unformed bs out r (omega (arith, c.if-answer-lt-ANSWER.false)) (λ z. c.if-j-ne0.true (k ∙ z)) in
     stays.area
 
 pub returns-then-j-ne0-clause-out : goal.returns-then-j-ne0-clause-out
@@ -78,7 +78,7 @@ returns-then-j-ne0-clause-out c =
     let bs = a.ledger.now in
     let out = a.answer.now in
     let k = code_of bs c.judge-j.ensures in
-    let stays = unformed bs out r c.if-answer-lt-ANSWER.false (λ z. c.if-j-ne0.true (k ∙ z)) in
+    let stays = unformed bs out r (omega (arith, c.if-answer-lt-ANSWER.false)) (λ z. c.if-j-ne0.true (k ∙ z)) in
     stays.answer
 
 -- ---- a request that is decided
@@ -116,7 +116,7 @@ returns-then-told-clause-code c =
     ∙ request_held a.kind a.team a.node a.position a.amount a.count a.first a.last f.kind f.team f.node f.position f.amount f.count f.first f.last in
     let e = sym (code_of bs c.judge-j.ensures) ∙ c.if-j-ne0.false in
     let q = c.outcome_of-o.ensures ∙ ap (λ (x : Request). decided (view (decoded bs) (node_in x)) x) same in
-    told c.to_signed-number.result (search rules) ∙ (c.to_signed-number.ensures ∙ done-code bs out r c.if-answer-lt-ANSWER.false e c.outcome_of-o.result q)
+    told c.to_signed-number.result (search rules) ∙ (c.to_signed-number.ensures ∙ done-code bs out r (omega (arith, c.if-answer-lt-ANSWER.false)) e c.outcome_of-o.result q)
 
 pub returns-then-told-clause-area : goal.returns-then-told-clause-area
 returns-then-told-clause-area c =
@@ -131,7 +131,7 @@ returns-then-told-clause-area c =
     let e = sym (code_of bs c.judge-j.ensures) ∙ c.if-j-ne0.false in
     let q = c.outcome_of-o.ensures ∙ ap (λ (x : Request). decided (view (decoded bs) (node_in x)) x) same in
     let n = c.natural-n.ensures ∙ ap nat_of (to_z-of_z f.node) in
-    c.apply.ensures ∙ done_area bs out r c.if-answer-lt-ANSWER.false e c.outcome_of-o.result q _ n
+    c.apply.ensures ∙ done_area bs out r (omega (arith, c.if-answer-lt-ANSWER.false)) e c.outcome_of-o.result q _ n
 
 pub returns-then-told-clause-out : goal.returns-then-told-clause-out
 returns-then-told-clause-out c =
@@ -145,7 +145,7 @@ returns-then-told-clause-out c =
     ∙ request_held a.kind a.team a.node a.position a.amount a.count a.first a.last f.kind f.team f.node f.position f.amount f.count f.first f.last in
     let e = sym (code_of bs c.judge-j.ensures) ∙ c.if-j-ne0.false in
     let q = c.outcome_of-o.ensures ∙ ap (λ (x : Request). decided (view (decoded bs) (node_in x)) x) same in
-    c.put_answer.ensures ∙ done_told bs out r c.if-answer-lt-ANSWER.false e c.outcome_of-o.result q c.if-told.true
+    c.put_answer.ensures ∙ done_told bs out r (omega (arith, c.if-answer-lt-ANSWER.false)) e c.outcome_of-o.result q c.if-told.true
 
 pub returns-clause-code : goal.returns-clause-code
 returns-clause-code c =
@@ -159,7 +159,7 @@ returns-clause-code c =
     ∙ request_held a.kind a.team a.node a.position a.amount a.count a.first a.last f.kind f.team f.node f.position f.amount f.count f.first f.last in
     let e = sym (code_of bs c.judge-j.ensures) ∙ c.if-j-ne0.false in
     let q = c.outcome_of-o.ensures ∙ ap (λ (x : Request). decided (view (decoded bs) (node_in x)) x) same in
-    told c.to_signed-number.result (search rules) ∙ (c.to_signed-number.ensures ∙ done-code bs out r c.if-answer-lt-ANSWER.false e c.outcome_of-o.result q)
+    told c.to_signed-number.result (search rules) ∙ (c.to_signed-number.ensures ∙ done-code bs out r (omega (arith, c.if-answer-lt-ANSWER.false)) e c.outcome_of-o.result q)
 
 pub returns-clause-area : goal.returns-clause-area
 returns-clause-area c =
@@ -174,7 +174,7 @@ returns-clause-area c =
     let e = sym (code_of bs c.judge-j.ensures) ∙ c.if-j-ne0.false in
     let q = c.outcome_of-o.ensures ∙ ap (λ (x : Request). decided (view (decoded bs) (node_in x)) x) same in
     let n = c.natural-n.ensures ∙ ap nat_of (to_z-of_z f.node) in
-    c.apply.ensures ∙ done_area bs out r c.if-answer-lt-ANSWER.false e c.outcome_of-o.result q _ n
+    c.apply.ensures ∙ done_area bs out r (omega (arith, c.if-answer-lt-ANSWER.false)) e c.outcome_of-o.result q _ n
 
 pub returns-clause-out : goal.returns-clause-out
 returns-clause-out c =
@@ -188,4 +188,4 @@ returns-clause-out c =
     ∙ request_held a.kind a.team a.node a.position a.amount a.count a.first a.last f.kind f.team f.node f.position f.amount f.count f.first f.last in
     let e = sym (code_of bs c.judge-j.ensures) ∙ c.if-j-ne0.false in
     let q = c.outcome_of-o.ensures ∙ ap (λ (x : Request). decided (view (decoded bs) (node_in x)) x) same in
-    done_untold bs out r c.if-answer-lt-ANSWER.false e c.outcome_of-o.result q c.if-told.false
+    done_untold bs out r (omega (arith, c.if-answer-lt-ANSWER.false)) e c.outcome_of-o.result q c.if-told.false
