@@ -1,4 +1,4 @@
-// The ledger on bytes, for a program in C: three calls, each exactly as the definitions of specs/ say, on every input. What a request decides
+// The ledger on bytes, as a program in C has it: three calls, each exactly as the definitions of specs/ say, on every input. What a request decides
 // is `requests::decide`, over the view that is read off the bytes. No call keeps anything of its own.
 #![tactic(auto)]
 
@@ -12,15 +12,7 @@ use rules::{Opening, Request};
 mod opens;
 
 // Opens a ledger in the area. Refused by 20 or 37, the area stays.
-#[unsafe(no_mangle)]
-pub extern "C" fn yol_open(
-    ledger: &mut [u8],
-    start: i32,
-    until: i32,
-    teams: i32,
-    cap: i32,
-    nodes: i32,
-) -> i32
+pub fn yol_open(ledger: &mut [u8], start: i32, until: i32, teams: i32, cap: i32, nodes: i32) -> i32
     ensures code { result ≡ pos (open_code ledger.old (opening_of start until teams cap nodes)) }
     ensures area { ledger.new ≡ open_area ledger.old (opening_of start until teams cap nodes) }
 {
@@ -46,8 +38,7 @@ pub extern "C" fn yol_open(
 }
 
 // One request: returns its code, changes the area as it was granted, and at 0 and 16 writes the answer.
-#[unsafe(no_mangle)]
-pub extern "C" fn yol_request(
+pub fn yol_request(
     ledger: &mut [u8],
     answer: &mut [u8],
     kind: i32,
@@ -87,9 +78,8 @@ pub extern "C" fn yol_request(
 }
 
 // The unclaimed count, or the code of its refusal with a minus.
-#[unsafe(no_mangle)]
 #[tactic(auto, using(office_forms::proofs::Held::code_of, office_views::proofs::Laws::rest_small, crate::proofs::Opening::count_given))]
-pub extern "C" fn yol_unclaimed(ledger: &[u8]) -> i32
+pub fn yol_unclaimed(ledger: &[u8]) -> i32
     ensures { result ≡ count_of ledger.now }
 {
     let j = office_forms::judge(ledger);
