@@ -45,7 +45,7 @@ fn pair_slot(left: u32) -> usize
     left as usize
 }
 
-#[tactic(auto, using(rules::proofs::Nodes::at_next, crate::proofs::Laws::up_to_none, crate::proofs::Laws::up_to_more, crate::proofs::Laws::child_slots), unfolding(rules::specs::WellFormed::node_rule))]
+#[tactic(auto, using(crate::proofs::Laws::up_to_none))]
 fn nodes_ok(l: Ledger) -> bool
     requires { l.used ≤ max_nodes }
     ensures { result ≡ up_to (node_rule l) l.used }
@@ -82,7 +82,6 @@ fn tally_slot(left: u32) -> usize
 }
 
 // At each number at which a pair can stand, how many nodes have it for left child.
-#[tactic(auto, using(rules::proofs::Sums::sum_by_none, crate::proofs::Laws::length_under, crate::proofs::Counts::zeros, crate::proofs::Counts::tally_bound, crate::proofs::Counts::tally_more))]
 fn tally(l: Ledger) -> [u32; PLACES]
     ensures { (c : ℕ) → c < max_nodes → get_or result c 0 ≡ sum_by (left_is c) l.nodes }
 {
@@ -117,7 +116,7 @@ fn pairs_ok(l: Ledger) -> bool
 }
 
 // How many nodes are STOLEN.
-#[tactic(auto, using(rules::proofs::States::at_most_one, rules::proofs::Sums::sum_by_next, rules::proofs::Sums::sum_by_none, crate::proofs::Laws::length_under), unfolding(rules::specs::Table::stolen_in))]
+#[tactic(auto, using(rules::proofs::States::at_most_one, rules::proofs::Sums::sum_by_next), unfolding(rules::specs::Table::stolen_in))]
 pub fn stolen_in(l: Ledger) -> u32
     ensures { result ≡ stolen_in l }
 {

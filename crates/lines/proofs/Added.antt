@@ -14,6 +14,7 @@ use Rattle.line_rules.specs.Line.{Line, word_of, parts_of, spaced, whole, text, 
 use Rattle.line_rules.specs.Written.{refused, granted, at_start, answer, after}
 use Rattle.line_rules.proofs.Answer.{ends_negative, ends_short, ends_written}
 use Rattle.lines.specs.Area.{over, Put, added, added_to}
+use Rattle.lines.proofs.Area.{first_room, second_room, both_put}
 
 module _ (line area : List ℕ) (at : ℕ) where
   -- the place and the area that an equation each of specs/Area.antt names
@@ -37,17 +38,23 @@ added-put {line} {area} {later} {at} h ends bytes =
     let e = le-leb (at + length line) (length area) h in
     record { place = ends ∙ rw e; bytes = bytes ∙ rw e }
 
--- ---- a line that is a word and what comes after it, by the test of its room
+-- ---- a line that is a word w and what comes after it, e, by the test of its room
 
-module _ (line w e area : List ℕ) (at n : ℕ) {b : Bool} (is : line ≡ w ++ e) (size : n ≡ length (w ++ e)) (test : b ≡ leb (at + n) (length area)) where
-  pub add_room : b ≡ true → at + length (w ++ e) ≤ length area
-  add_room h = omega (arith, size, leb-true (at + n) (length area) (rw test at h))
+module _ (w e area : List ℕ) (at : ℕ) {line : List ℕ} {n : ℕ} {b : Bool} (is : line ≡ w ++ e) (size : n ≡ length (w ++ e)) (test : b ≡ leb (at + n) (length area)) where
+  fits_whole : b ≡ true → at + length (w ++ e) ≤ length area
+  fits_whole h = omega (arith, size, leb-true (at + n) (length area) (rw test at h))
 
-  pub add_line : {next : ℕ} {later : List ℕ} → b ≡ true → Put area at (w ++ e) next later → Adds line area at next later
-  add_line h p = rw is (adds (w ++ e) area at (add_room h) p)
+  pub word_room : b ≡ true → at + length w ≤ length area
+  word_room h = first_room area at w e (fits_whole h)
 
-  pub add_none : b ≡ false → Adds line area at at area
-  add_none h = rw is (adds_nothing (w ++ e) area at (omega (arith, size, leb-false (at + n) (length area) (rw test at h))))
+  pub ending_room : b ≡ true → {m : ℕ} {later : List ℕ} → Put area at w m later → m + length e ≤ length later
+  ending_room h p = second_room area at w e (fits_whole h) p
+
+  pub line_put : b ≡ true → {m next : ℕ} {later last : List ℕ} → Put area at w m later → Put later m e next last → Adds line area at next last
+  line_put h p q = rw is (adds (w ++ e) area at (fits_whole h) (both_put area at w e (fits_whole h) p q))
+
+  pub no_line : b ≡ false → Adds line area at at area
+  no_line h = rw is (adds_nothing (w ++ e) area at (omega (arith, size, leb-false (at + n) (length area) (rw test at h))))
 
 -- ---- the answer to a public call
 

@@ -37,123 +37,165 @@ use Rattle.listing.proofs.Writing.{head_room, note_room, note_put, last_room, la
 use Rattle.std.specs.Prelude.{replicate}
 
 -- the run that is begun, and the area that it is written into
-pub record Starts (s : List ℤ) (count : ℕ) (o : Opening) (program : ℕ) (area : List ℕ) (cap : ℕ) (d : Opened) (rs : List Team) : Type 0 where
-  pub runnable : Runnable o program count s
-  pub room : room_for count ≤ length area
-  pub cap_is : cap ≡ nat_of o.cap
-  pub opened_is : d ≡ opening o
-  pub fresh_are : rs ≡ replicate max_teams (fresh_team (program_of program))
-
--- the open line is written
-pub record Headed (s : List ℤ) (count : ℕ) (o : Opening) (program : ℕ) (area : List ℕ) (cap : ℕ) (u : Run) (first : ℕ) (headed : List ℕ) : Type 0 where
+pub record Starts (s : List ℤ) (count : ℕ) (o : Opening) (program : ℕ) (area : List ℕ) (cap : ℕ) (u : Run) : Type 0 where
   pub runnable : Runnable o program count s
   pub room : room_for count ≤ length area
   pub begun : Begun o program cap u
+
+-- the open line is written
+pub record Headed (s : List ℤ) (count : ℕ) (o : Opening) (program : ℕ) (area : List ℕ) (cap : ℕ) (u : Run) (first : ℕ) (headed : List ℕ) : Type 0 where
+  pub starts : Starts s count o program area cap u
   pub put : Put area 0 (text (head_line o program)) first headed
 
--- i steps are taken
-pub record At (s : List ℤ) (cap : ℕ) (u : Run) (first : ℕ) (headed : List ℕ) (i stolen end : ℕ) (l : Ledger) (rs : List Team) (out : List ℕ) : Type 0 where
-  pub count : stolen ≡ stolen_in l
+-- what the loop keeps, after i steps
+abbrev pub Kept : List ℤ → ℕ → ℕ → Run → ℕ → List ℕ → ℕ → ℕ → ℕ → Ledger → List Team → List ℕ → Type 0
+Kept s count cap u first headed i stolen end l rs out =
+    (i ≤ count)
+    × (length out ≡ length headed)
+    × (stolen ≡ stolen_in l)
+    × (run_with l rs ≡ run_from (pos cap) u (take i s))
+    × Put headed first (bytes_of (notes (pos cap) u (take i s))) end out
+
+-- at the loop's test, after i steps
+pub record At (s : List ℤ) (count : ℕ) (o : Opening) (program : ℕ) (area : List ℕ) (cap : ℕ) (u : Run) (first : ℕ) (headed : List ℕ) (i stolen end : ℕ) (l : Ledger) (rs : List Team) (out : List ℕ) : Type 0 where
+  pub before : Headed s count o program area cap u first headed
+  pub same : length out ≡ length headed
+  pub count_is : stolen ≡ stolen_in l
   pub run : run_with l rs ≡ run_from (pos cap) u (take i s)
   pub lines : Put headed first (bytes_of (notes (pos cap) u (take i s))) end out
 
--- the cap and the numbers that are read are signed locals
+-- ---- the cap is a signed local
+
 pub starting : {s : List ℤ} {count : ℕ} {o : Opening} {program : ℕ} {area : List ℕ} {cap : ℕ} {d : Opened} {rs : List Team}
     → Runnable o program count s × (room_for count ≤ length area)
     → mag o.cap < 2 ^ hbits w32
     → cap ≡ nat_of (to_z w32 (of_z w32 o.cap))
     → d ≡ opening o
     → rs ≡ replicate max_teams (fresh_team (program_of program))
-    → Starts s count o program area cap d rs
-starting {o = o} p m ec ed er =
-    record { runnable = p.0; room = p.1; cap_is = rw (told o.cap m) at ec; opened_is = ed; fresh_are = er }
+    → Starts s count o program area cap (run_with d.ledger rs)
+starting {o = o} {program = program} {cap = cap} {d = d} {rs = rs} p m ec ed er =
+    record {
+      runnable = p.0;
+      room = p.1;
+      begun = begun_with o program cap d rs p.0.opened p.0.known (rw (told o.cap m) at ec) ed er;
+    }
 
-pub at_step : {s : List ℤ} {cap : ℕ} {u : Run} {first : ℕ} {headed : List ℕ} {i count stolen end : ℕ} {l : Ledger} {rs : List Team} {out : List ℕ}
-    → (i ≤ count) × (length out ≡ length headed) × (stolen ≡ stolen_in l) × (run_with l rs ≡ run_from (pos cap) u (take i s)) × Put headed first (bytes_of (notes (pos cap) u (take i s))) end out
-    → At s cap u first headed i stolen end l rs out
-at_step k = record { count = k.2; run = k.3; lines = k.4 }
+pub heading : {s : List ℤ} {count : ℕ} {o : Opening} {program : ℕ} {area : List ℕ} {cap : ℕ} {d : Opened} {rs : List Team} {first : ℕ} {headed : List ℕ}
+    → Runnable o program count s × (room_for count ≤ length area)
+    → mag o.cap < 2 ^ hbits w32
+    → cap ≡ nat_of (to_z w32 (of_z w32 o.cap))
+    → d ≡ opening o
+    → rs ≡ replicate max_teams (fresh_team (program_of program))
+    → Put area 0 (text (head_line o program)) first headed
+    → Headed s count o program area cap (run_with d.ledger rs) first headed
+heading p m ec ed er h = record { starts = starting p m ec ed er; put = h }
 
-module _ {s : List ℤ} {count : ℕ} {o : Opening} {program : ℕ} {area : List ℕ} {cap : ℕ} {d : Opened} {rs : List Team} (z : Starts s count o program area cap d rs) where
-  begins : Begun o program cap (run_with d.ledger rs)
-  begins = begun_with o program cap d rs z.runnable.opened z.runnable.known z.cap_is z.opened_is z.fresh_are
+pub looping : {s : List ℤ} {count : ℕ} {o : Opening} {program : ℕ} {area : List ℕ} {cap : ℕ} {u : Run} {first : ℕ} {headed : List ℕ} {i stolen end : ℕ} {l : Ledger} {rs : List Team} {out : List ℕ}
+    → Headed s count o program area cap u first headed
+    → Kept s count cap u first headed i stolen end l rs out
+    → At s count o program area cap u first headed i stolen end l rs out
+looping h k = record { before = h; same = k.1; count_is = k.2; run = k.3; lines = k.4 }
 
+-- ---- before the loop
+
+module _ {s : List ℤ} {count : ℕ} {o : Opening} {program : ℕ} {area : List ℕ} {cap : ℕ} {u : Run} (z : Starts s count o program area cap u) where
   pub room_for_head : 0 + length (text (head_line o program)) ≤ length area
-  room_for_head = head_room begins s count z.runnable.inside z.runnable.teams area z.room
-
-  pub starts : {first : ℕ} {headed : List ℕ} → Put area 0 (text (head_line o program)) first headed
-      → Headed s count o program area cap (run_with d.ledger rs) first headed
-  starts h = record { runnable = z.runnable; room = z.room; begun = begins; put = h }
+  room_for_head = head_room z.begun s count z.runnable.inside z.runnable.teams area z.room
 
 module _ {s : List ℤ} {count : ℕ} {o : Opening} {program : ℕ} {area : List ℕ} {cap : ℕ} {l : Ledger} {rs : List Team} {first : ℕ} {headed : List ℕ}
     (h : Headed s count o program area cap (run_with l rs) first headed) where
-  pub before : (0 ≤ count) × (length headed ≡ length headed) × (0 ≡ stolen_in l) × (run_with l rs ≡ run_from (pos cap) (run_with l rs) (take 0 s)) × Put headed first (bytes_of (notes (pos cap) (run_with l rs) (take 0 s))) first headed
+  pub no_step : Kept s count cap (run_with l rs) first headed 0 0 first l rs headed
   unfolding run_steps notes bytes_of
-  before = (omega arith, refl, none_stolen o program cap l rs h.begun, refl, put-nothing headed first)
+  no_step = (omega arith, refl, none_stolen o program cap l rs h.starts.begun, refl, put-nothing headed first)
 
-module _ {s : List ℤ} {count : ℕ} {o : Opening} {program : ℕ} {area : List ℕ} {cap : ℕ} {u : Run} {first : ℕ} {headed : List ℕ} (h : Headed s count o program area cap u first headed)
-    {i stolen end : ℕ} {l : Ledger} {rs : List Team} {out : List ℕ} (a : At s cap u first headed i stolen end l rs out) where
+module _ {s : List ℤ} {count : ℕ} {o : Opening} {program : ℕ} {area : List ℕ} {cap : ℕ} {u : Run} {first : ℕ} {headed : List ℕ} {i stolen end : ℕ} {l : Ledger} {rs : List Team} {out : List ℕ}
+    (a : At s count o program area cap u first headed i stolen end l rs out) where
+  abbrev z : Starts s count o program area cap u
+  z = a.before.starts
+
   stands : Here o cap l rs
-  stands = here h.begun (take i s) l rs a.run
+  stands = here z.begun (take i s) l rs a.run
 
   pub few : stolen ≤ max_nodes
-  few = let w = stands.wf in omega (arith, a.count, w.loaded, w.limits.room_high)
+  few = let w = stands.wf in omega (arith, a.count_is, w.loaded, w.limits.room_high)
 
   pub used_few : l.used ≤ max_nodes
   used_few = let w = stands.wf in omega (arith, w.loaded, w.limits.room_high)
 
   -- ---- at the end
-  module _ (e : i ≡ count) where
-    pub room_for_last : end + length (text (last_line (run_with l rs))) ≤ length out
-    room_for_last =
-        last_room h.begun s count h.runnable.inside h.runnable.teams area h.room h.put l rs (rw e at a.run) (rw e at a.lines)
 
-    pub last_good : (well_formed l ≡ true) × (l.teams ≤ max_teams)
-    last_good = let w = stands.wf in (rules_back l w, w.limits.teams_high)
+  module _ (e : i ≡ count) where
+    pub last_good : (end + length (text (last_line (run_with l rs))) ≤ length out) × (well_formed l ≡ true) × (l.teams ≤ max_teams)
+    last_good =
+        let w = stands.wf in (
+          last_room z.begun s count z.runnable.inside z.runnable.teams area z.room a.before.put l rs (rw e at a.run) (rw e at a.lines),
+          rules_back l w,
+          w.limits.teams_high,
+        )
 
     pub whole : {last : ℕ} {done : List ℕ} → Put out end (text (last_line (run_with l rs))) last done
         → Put area 0 (bytes_of (run_lines o program (take count s))) last done
     whole q =
-        last_put h.begun s count h.runnable.inside h.runnable.teams area h.room h.put l rs (rw e at a.run) (rw e at a.lines) q
+        last_put z.begun s count z.runnable.inside z.runnable.teams area z.room a.before.put l rs (rw e at a.run) (rw e at a.lines) q
 
-  -- ---- at a step
-  module _ (more : i < count) where
+  -- ---- at a step, whose number is a signed local
+
+  module _ (more : i < count) (m : mag (get_or s i (pos 0)) < 2 ^ hbits w32) {slot : ℕ} (at_slot : slot ≡ slot_of (to_z w32 (of_z w32 (get_or s i (pos 0))))) where
+    abbrev number : ℤ
+    number = get_or s i (pos 0)
+
     less : i < length s
-    less = omega (arith, h.runnable.inside)
+    less = omega (arith, z.runnable.inside)
 
-    mine : within (get_or s i (pos 0)) 1 (nat_of o.teams) ≡ true
-    mine = h.runnable.teams i more
+    mine : within number 1 (nat_of o.teams) ≡ true
+    mine = z.runnable.teams i more
 
-    -- the team's record is read
-    module _ {slot : ℕ} (es : slot ≡ slot_of (get_or s i (pos 0))) where
-      pub seat : slot < max_teams
-      seat = rw es (seat_inside h.begun s i less l rs a.run mine)
+    es : slot ≡ slot_of number
+    es = rw (told number m) at at_slot
 
-      pub stays : is_stopped (get_or rs slot no_team).place ≡ true → At s cap u first headed (i + 1) stolen end l rs out
-      stays e =
-          let r = rests h.begun s i less l rs a.run mine (rw es at e) in
-          record { count = a.count; run = r.0; lines = rw r.1 a.lines }
+    pub seat : slot < max_teams
+    seat = rw es (seat_inside z.begun s i less l rs a.run mine)
 
-      -- the turn is taken
-      module _ {place pair k : ℕ} {x : Node} {v : View} {t : Turned}
-          (ep : place ≡ slot_for (get_or rs slot no_team).node)
-          (eq : pair ≡ l.used + 1)
-          (ex : x ≡ node_for (get_or rs slot no_team).node (get_or l.nodes place blank))
-          (ev : v ≡ view_by l.teams l.room l.used stolen pair x)
-          (ek : k ≡ nat_of (get_or s i (pos 0)))
-          (et : t ≡ clipped_turn k cap (get_or rs slot no_team) v) where
-        turns : t ≡ taken h.begun s i less l rs a.run mine
-        turns =
-            taken_is h.begun s i less l rs a.run mine slot place stolen pair k x v t es ep a.count (eq ∙ unfold next_pair in refl) ex ev ek et
+    -- a team that has stopped
+    pub stays : is_stopped (get_or rs slot no_team).place ≡ true → Kept s count cap u first headed (i + 1) stolen end l rs out
+    stays e =
+        let r = rests z.begun s i less l rs a.run mine (rw es at e) in
+        (omega (arith, more), a.same, a.count_is, r.0, rw r.1 a.lines)
 
-        -- what the arms of the match store
-        pub stores : Arms cap u (take (i + 1) s) l (set rs slot t.team) place stolen t.change
-        stores = arms h.begun s i less l rs a.run mine slot place stolen t es ep a.count turns
+    -- the turn is taken
+    module _ {place pair k : ℕ} {x : Node} {v : View} {t : Turned}
+        (ep : place ≡ slot_for (get_or rs slot no_team).node)
+        (eq : pair ≡ l.used + 1)
+        (ex : x ≡ node_for (get_or rs slot no_team).node (get_or l.nodes place blank))
+        (ev : v ≡ view_by l.teams l.room l.used stolen pair x)
+        (named : k ≡ nat_of (to_z w32 (of_z w32 number)))
+        (et : t ≡ clipped_turn k cap (get_or rs slot no_team) v) where
+      ek : k ≡ nat_of number
+      ek = rw (told number m) at named
 
-        pub room_for_note : end + length (bytes_of (note_of (pos k) t.kind t.node t.answer)) ≤ length out
-        room_for_note =
-            note_room h.begun s count h.runnable.inside h.runnable.teams area h.room h.put i more l rs a.run k t ek turns a.lines
+      turns : t ≡ taken z.begun s i less l rs a.run mine
+      turns =
+          taken_is z.begun s i less l rs a.run mine slot place stolen pair k x v t es ep a.count_is (eq ∙ unfold next_pair in refl) ex ev ek et
 
-        pub writes : {last : ℕ} {done : List ℕ} → Put out end (bytes_of (note_of (pos k) t.kind t.node t.answer)) last done
-            → Put headed first (bytes_of (notes (pos cap) u (take (i + 1) s))) last done
-        writes q =
-            note_put h.begun s count h.runnable.inside h.runnable.teams area h.room h.put i more l rs a.run k t ek turns a.lines q
+      pub room_for_note : end + length (bytes_of (note_of (pos k) t.kind t.node t.answer)) ≤ length out
+      room_for_note =
+          note_room z.begun s count z.runnable.inside z.runnable.teams area z.room a.before.put i more l rs a.run k t ek turns a.lines
+
+      -- what the arms of the match store
+      pub stores : Arms cap u (take (i + 1) s) l (set rs slot t.team) place stolen t.change
+      stores = arms z.begun s i less l rs a.run mine slot place stolen t es ep a.count_is turns
+
+      -- the line is written and an arm's stores are made
+      pub steps_on : {last more_stolen : ℕ} {done : List ℕ} {next : Ledger} {later : List Team}
+          → Put out end (bytes_of (note_of (pos k) t.kind t.node t.answer)) last done
+          → length done ≡ length out
+          → more_stolen ≡ stolen_in next
+          → run_with next later ≡ run_from (pos cap) u (take (i + 1) s)
+          → Kept s count cap u first headed (i + 1) more_stolen last next later done
+      steps_on q same count_is run = (
+        omega (arith, more),
+        same ∙ a.same,
+        count_is,
+        run,
+        note_put z.begun s count z.runnable.inside z.runnable.teams area z.room a.before.put i more l rs a.run k t ek turns a.lines q,
+      )

@@ -11,31 +11,17 @@ use Rattle.office.proofs.yol_open.Goals as goal
 
 -- ---- an area that is too short
 
-pub returns-then-ledger-room-clause-code : goal.returns-then-ledger-room-clause-code
-returns-then-ledger-room-clause-code c =
+pub returns-then-ledger-room : goal.returns-then-ledger-room
+returns-then-ledger-room c =
     let a = c.args in
     let f = c.ranges in
     let bs = a.ledger.now in
     let o = opening_of a.start a.until a.teams a.cap a.nodes in
     let same = opening_held a.start a.until a.teams a.cap a.nodes f.start f.until f.teams f.cap f.nodes in
     let test = c.is_good.ensures ∙ ap opens same in
-    let e = sym test ∙ c.if-is_good.true in
     let room = c.natural-room.ensures ∙ ap nat_of (to_z-of_z f.nodes) in
-    let code = few_code bs o e (rw room at c.if-ledger-room.true) in
-    ap pos (sym code)
-
-pub returns-then-ledger-room-clause-area : goal.returns-then-ledger-room-clause-area
-returns-then-ledger-room-clause-area c =
-    let a = c.args in
-    let f = c.ranges in
-    let bs = a.ledger.now in
-    let o = opening_of a.start a.until a.teams a.cap a.nodes in
-    let same = opening_held a.start a.until a.teams a.cap a.nodes f.start f.until f.teams f.cap f.nodes in
-    let test = c.is_good.ensures ∙ ap opens same in
-    let e = sym test ∙ c.if-is_good.true in
-    let room = c.natural-room.ensures ∙ ap nat_of (to_z-of_z f.nodes) in
-    let code = few_code bs o e (rw room at c.if-ledger-room.true) in
-    sym (kept_area bs o 37 code (λ z. omega arith))
+    let code = few_code bs o (sym test ∙ c.if-is_good.true) (rw room at c.if-ledger-room.true) in
+    record { code = ap pos (sym code); area = sym (kept_area bs o 37 code (λ z. omega arith)) }
 
 -- ---- an opening that is granted
 
@@ -52,42 +38,28 @@ put_new-requires c =
     let first = c.natural-first.ensures ∙ ap nat_of (to_z-of_z f.start) in
     (omega (arith, g.start.high, g.until.high), omega (arith, g.nodes.low), omega (arith, g.nodes.high), c.if-ledger-room.false)
 
-pub returns-then-is_good-clause-code : goal.returns-then-is_good-clause-code
-returns-then-is_good-clause-code c =
+pub returns-then-is_good : goal.returns-then-is_good
+returns-then-is_good c =
     let a = c.args in
     let f = c.ranges in
     let bs = a.ledger.now in
     let o = opening_of a.start a.until a.teams a.cap a.nodes in
     let same = opening_held a.start a.until a.teams a.cap a.nodes f.start f.until f.teams f.cap f.nodes in
     let test = c.is_good.ensures ∙ ap opens same in
-    let e = sym test ∙ c.if-is_good.true in
     let room = c.natural-room.ensures ∙ ap nat_of (to_z-of_z f.nodes) in
-    let code = good_code bs o e (rw room at c.if-ledger-room.false) in
-    ap pos (sym code)
-
-pub returns-then-is_good-clause-area : goal.returns-then-is_good-clause-area
-returns-then-is_good-clause-area c =
-    let a = c.args in
-    let f = c.ranges in
-    let bs = a.ledger.now in
-    let o = opening_of a.start a.until a.teams a.cap a.nodes in
-    let same = opening_held a.start a.until a.teams a.cap a.nodes f.start f.until f.teams f.cap f.nodes in
-    let test = c.is_good.ensures ∙ ap opens same in
-    let e = sym test ∙ c.if-is_good.true in
-    let room = c.natural-room.ensures ∙ ap nat_of (to_z-of_z f.nodes) in
-    let code = good_code bs o e (rw room at c.if-ledger-room.false) in
+    let code = good_code bs o (sym test ∙ c.if-is_good.true) (rw room at c.if-ledger-room.false) in
     let area =
     good_area bs o code
     (c.natural-first.ensures ∙ ap nat_of (to_z-of_z f.start))
     (c.natural-last.ensures ∙ ap nat_of (to_z-of_z f.until))
     (c.natural-count.ensures ∙ ap nat_of (to_z-of_z f.teams))
     room in
-    c.put_new.ensures ∙ area
+    record { code = ap pos (sym code); area = c.put_new.ensures ∙ area }
 
 -- ---- numbers outside the limits
 
-pub returns-clause-code : goal.returns-clause-code
-returns-clause-code c =
+pub returns : goal.returns
+returns c =
     let a = c.args in
     let f = c.ranges in
     let bs = a.ledger.now in
@@ -95,15 +67,4 @@ returns-clause-code c =
     let same = opening_held a.start a.until a.teams a.cap a.nodes f.start f.until f.teams f.cap f.nodes in
     let test = c.is_good.ensures ∙ ap opens same in
     let code = bad_code bs o (sym test ∙ c.if-is_good.false) in
-    ap pos (sym code)
-
-pub returns-clause-area : goal.returns-clause-area
-returns-clause-area c =
-    let a = c.args in
-    let f = c.ranges in
-    let bs = a.ledger.now in
-    let o = opening_of a.start a.until a.teams a.cap a.nodes in
-    let same = opening_held a.start a.until a.teams a.cap a.nodes f.start f.until f.teams f.cap f.nodes in
-    let test = c.is_good.ensures ∙ ap opens same in
-    let code = bad_code bs o (sym test ∙ c.if-is_good.false) in
-    sym (kept_area bs o 20 code (λ z. omega arith))
+    record { code = ap pos (sym code); area = sym (kept_area bs o 20 code (λ z. omega arith)) }

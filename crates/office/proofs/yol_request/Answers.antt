@@ -1,5 +1,5 @@
 -- The ways out of a request.
-use Rattle.std.proofs.Common.{rules, arith, sym, ap, ◌∙◌}
+use Rattle.std.proofs.Common.{rules, arith, sym, ap, ◌∙◌, ◌≤◌, length}
 use lib.IntN.{pos}
 use mir.Facts.{to_z-of_z}
 use Rattle.numbers.specs.Fields.{nat_of}
@@ -18,68 +18,27 @@ use Rattle.office.proofs.yol_request.Goals as goal
 
 -- ---- an answer area that is too short
 
-pub returns-then-answer-lt-ANSWER-clause-code : goal.returns-then-answer-lt-ANSWER-clause-code
-returns-then-answer-lt-ANSWER-clause-code c =
+pub returns-then-answer-lt-ANSWER : goal.returns-then-answer-lt-ANSWER
+returns-then-answer-lt-ANSWER c =
     let a = c.args in
-    let f = c.ranges in
     let r = request a.kind a.team a.node a.position a.amount a.count a.first a.last in
     let bs = a.ledger.now in
     let out = a.answer.now in
-    ap pos (few bs out r (omega (arith, c.if-answer-lt-ANSWER.true))).code
-
-pub returns-then-answer-lt-ANSWER-clause-area : goal.returns-then-answer-lt-ANSWER-clause-area
-returns-then-answer-lt-ANSWER-clause-area c =
-    let a = c.args in
-    let f = c.ranges in
-    let r = request a.kind a.team a.node a.position a.amount a.count a.first a.last in
-    let bs = a.ledger.now in
-    let out = a.answer.now in
-    (few bs out r (omega (arith, c.if-answer-lt-ANSWER.true))).area
-
-pub returns-then-answer-lt-ANSWER-clause-out : goal.returns-then-answer-lt-ANSWER-clause-out
-returns-then-answer-lt-ANSWER-clause-out c =
-    let a = c.args in
-    let f = c.ranges in
-    let r = request a.kind a.team a.node a.position a.amount a.count a.first a.last in
-    let bs = a.ledger.now in
-    let out = a.answer.now in
-    (few bs out r (omega (arith, c.if-answer-lt-ANSWER.true))).answer
+    let stays = few bs out r (omega (arith, c.if-answer-lt-ANSWER.true)) in
+    record { code = ap pos stays.code; area = stays.area; out = stays.answer }
 
 -- ---- an area that does not pass
 
-pub returns-then-j-ne0-clause-code : goal.returns-then-j-ne0-clause-code
-returns-then-j-ne0-clause-code c =
+pub returns-then-j-ne0 : goal.returns-then-j-ne0
+returns-then-j-ne0 c =
     let a = c.args in
-    let f = c.ranges in
     let r = request a.kind a.team a.node a.position a.amount a.count a.first a.last in
     let bs = a.ledger.now in
     let out = a.answer.now in
     let k = code_of bs c.judge-j.ensures in
     let stays = unformed bs out r (omega (arith, c.if-answer-lt-ANSWER.false)) (λ z. c.if-j-ne0.true (k ∙ z)) in
     let number = told c.to_signed.result (search rules) ∙ (c.to_signed.ensures ∙ (ap signed k ∙ as_number (formed_code bs) (few_codes bs))) in
-    number ∙ ap pos stays.code
-
-pub returns-then-j-ne0-clause-area : goal.returns-then-j-ne0-clause-area
-returns-then-j-ne0-clause-area c =
-    let a = c.args in
-    let f = c.ranges in
-    let r = request a.kind a.team a.node a.position a.amount a.count a.first a.last in
-    let bs = a.ledger.now in
-    let out = a.answer.now in
-    let k = code_of bs c.judge-j.ensures in
-    let stays = unformed bs out r (omega (arith, c.if-answer-lt-ANSWER.false)) (λ z. c.if-j-ne0.true (k ∙ z)) in
-    stays.area
-
-pub returns-then-j-ne0-clause-out : goal.returns-then-j-ne0-clause-out
-returns-then-j-ne0-clause-out c =
-    let a = c.args in
-    let f = c.ranges in
-    let r = request a.kind a.team a.node a.position a.amount a.count a.first a.last in
-    let bs = a.ledger.now in
-    let out = a.answer.now in
-    let k = code_of bs c.judge-j.ensures in
-    let stays = unformed bs out r (omega (arith, c.if-answer-lt-ANSWER.false)) (λ z. c.if-j-ne0.true (k ∙ z)) in
-    stays.answer
+    record { code = number ∙ ap pos stays.code; area = stays.area; out = stays.answer }
 
 -- ---- a request that is decided
 
@@ -92,10 +51,9 @@ outcome_of-o-requires c =
 pub apply-requires : goal.apply-requires
 apply-requires c =
     let a = c.args in
-    let f = c.ranges in
     let r = request a.kind a.team a.node a.position a.amount a.count a.first a.last in
     let bs = a.ledger.now in
-    let out = a.answer.now in
+    let f = c.ranges in
     let same =
     c.new-r.ensures
     ∙ request_held a.kind a.team a.node a.position a.amount a.count a.first a.last f.kind f.team f.node f.position f.amount f.count f.first f.last in
@@ -104,88 +62,42 @@ apply-requires c =
     let n = c.natural-n.ensures ∙ ap nat_of (to_z-of_z f.node) in
     (e, rw (n, q) (request_inside bs e r))
 
-pub returns-then-told-clause-code : goal.returns-then-told-clause-code
-returns-then-told-clause-code c =
+pub returns-then-told : goal.returns-then-told
+returns-then-told c =
     let a = c.args in
-    let f = c.ranges in
     let r = request a.kind a.team a.node a.position a.amount a.count a.first a.last in
     let bs = a.ledger.now in
     let out = a.answer.now in
-    let same =
-    c.new-r.ensures
-    ∙ request_held a.kind a.team a.node a.position a.amount a.count a.first a.last f.kind f.team f.node f.position f.amount f.count f.first f.last in
-    let e = sym (code_of bs c.judge-j.ensures) ∙ c.if-j-ne0.false in
-    let q = c.outcome_of-o.ensures ∙ ap (λ (x : Request). decided (view (decoded bs) (node_in x)) x) same in
-    told c.to_signed-number.result (search rules) ∙ (c.to_signed-number.ensures ∙ done-code bs out r (omega (arith, c.if-answer-lt-ANSWER.false)) e c.outcome_of-o.result q)
-
-pub returns-then-told-clause-area : goal.returns-then-told-clause-area
-returns-then-told-clause-area c =
-    let a = c.args in
     let f = c.ranges in
-    let r = request a.kind a.team a.node a.position a.amount a.count a.first a.last in
-    let bs = a.ledger.now in
-    let out = a.answer.now in
     let same =
     c.new-r.ensures
     ∙ request_held a.kind a.team a.node a.position a.amount a.count a.first a.last f.kind f.team f.node f.position f.amount f.count f.first f.last in
     let e = sym (code_of bs c.judge-j.ensures) ∙ c.if-j-ne0.false in
     let q = c.outcome_of-o.ensures ∙ ap (λ (x : Request). decided (view (decoded bs) (node_in x)) x) same in
     let n = c.natural-n.ensures ∙ ap nat_of (to_z-of_z f.node) in
-    c.apply.ensures ∙ done_area bs out r (omega (arith, c.if-answer-lt-ANSWER.false)) e c.outcome_of-o.result q _ n
+    let long : 24 ≤ length out = omega (arith, c.if-answer-lt-ANSWER.false) in
+    record {
+      code = told c.to_signed-number.result (search rules) ∙ (c.to_signed-number.ensures ∙ done-code bs out r long e c.outcome_of-o.result q);
+      area = c.apply.ensures ∙ done_area bs out r long e c.outcome_of-o.result q _ n;
+      out = c.put_answer.ensures ∙ done_told bs out r long e c.outcome_of-o.result q c.if-told.true;
+    }
 
-pub returns-then-told-clause-out : goal.returns-then-told-clause-out
-returns-then-told-clause-out c =
+pub returns : goal.returns
+returns c =
     let a = c.args in
-    let f = c.ranges in
     let r = request a.kind a.team a.node a.position a.amount a.count a.first a.last in
     let bs = a.ledger.now in
     let out = a.answer.now in
-    let same =
-    c.new-r.ensures
-    ∙ request_held a.kind a.team a.node a.position a.amount a.count a.first a.last f.kind f.team f.node f.position f.amount f.count f.first f.last in
-    let e = sym (code_of bs c.judge-j.ensures) ∙ c.if-j-ne0.false in
-    let q = c.outcome_of-o.ensures ∙ ap (λ (x : Request). decided (view (decoded bs) (node_in x)) x) same in
-    c.put_answer.ensures ∙ done_told bs out r (omega (arith, c.if-answer-lt-ANSWER.false)) e c.outcome_of-o.result q c.if-told.true
-
-pub returns-clause-code : goal.returns-clause-code
-returns-clause-code c =
-    let a = c.args in
     let f = c.ranges in
-    let r = request a.kind a.team a.node a.position a.amount a.count a.first a.last in
-    let bs = a.ledger.now in
-    let out = a.answer.now in
-    let same =
-    c.new-r.ensures
-    ∙ request_held a.kind a.team a.node a.position a.amount a.count a.first a.last f.kind f.team f.node f.position f.amount f.count f.first f.last in
-    let e = sym (code_of bs c.judge-j.ensures) ∙ c.if-j-ne0.false in
-    let q = c.outcome_of-o.ensures ∙ ap (λ (x : Request). decided (view (decoded bs) (node_in x)) x) same in
-    told c.to_signed-number.result (search rules) ∙ (c.to_signed-number.ensures ∙ done-code bs out r (omega (arith, c.if-answer-lt-ANSWER.false)) e c.outcome_of-o.result q)
-
-pub returns-clause-area : goal.returns-clause-area
-returns-clause-area c =
-    let a = c.args in
-    let f = c.ranges in
-    let r = request a.kind a.team a.node a.position a.amount a.count a.first a.last in
-    let bs = a.ledger.now in
-    let out = a.answer.now in
     let same =
     c.new-r.ensures
     ∙ request_held a.kind a.team a.node a.position a.amount a.count a.first a.last f.kind f.team f.node f.position f.amount f.count f.first f.last in
     let e = sym (code_of bs c.judge-j.ensures) ∙ c.if-j-ne0.false in
     let q = c.outcome_of-o.ensures ∙ ap (λ (x : Request). decided (view (decoded bs) (node_in x)) x) same in
     let n = c.natural-n.ensures ∙ ap nat_of (to_z-of_z f.node) in
-    c.apply.ensures ∙ done_area bs out r (omega (arith, c.if-answer-lt-ANSWER.false)) e c.outcome_of-o.result q _ n
-
-pub returns-clause-out : goal.returns-clause-out
-returns-clause-out c =
-    let a = c.args in
-    let f = c.ranges in
-    let r = request a.kind a.team a.node a.position a.amount a.count a.first a.last in
-    let bs = a.ledger.now in
-    let out = a.answer.now in
-    let same =
-    c.new-r.ensures
-    ∙ request_held a.kind a.team a.node a.position a.amount a.count a.first a.last f.kind f.team f.node f.position f.amount f.count f.first f.last in
-    let e = sym (code_of bs c.judge-j.ensures) ∙ c.if-j-ne0.false in
-    let q = c.outcome_of-o.ensures ∙ ap (λ (x : Request). decided (view (decoded bs) (node_in x)) x) same in
-    done_untold bs out r (omega (arith, c.if-answer-lt-ANSWER.false)) e c.outcome_of-o.result q c.if-told.false
+    let long : 24 ≤ length out = omega (arith, c.if-answer-lt-ANSWER.false) in
+    record {
+      code = told c.to_signed-number.result (search rules) ∙ (c.to_signed-number.ensures ∙ done-code bs out r long e c.outcome_of-o.result q);
+      area = c.apply.ensures ∙ done_area bs out r long e c.outcome_of-o.result q _ n;
+      out = done_untold bs out r long e c.outcome_of-o.result q c.if-told.false;
+    }
