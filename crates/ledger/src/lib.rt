@@ -29,7 +29,7 @@ pub fn open(o: Opening) -> Opened
 }
 
 // One request: its answer, and the ledger after it. A refusal changes nothing.
-#[tactic(auto, using(rules::proofs::Record::rules, numbers::proofs::Signed::told, rules::proofs::Record::both_sound, nodes::proofs::Laws::chosen, nodes::proofs::Laws::passed_by, nodes::proofs::Laws::natural_held, forms::proofs::Laws::length_under, forms::proofs::Laws::used_small, crate::proofs::Laws::numbers_first, crate::proofs::Slots::request_stores), unfolding(rules::specs::Requests::view, rules::specs::Requests::answered, rules::specs::Requests::requested))]
+#[tactic(auto, using(rules::proofs::Record::rules, rules::proofs::Record::both_sound, nodes::proofs::Laws::natural_held, forms::proofs::Laws::length_under, forms::proofs::Laws::used_small, crate::proofs::Laws::numbers_first, crate::proofs::Slots::request_stores), unfolding(rules::specs::Requests::view, rules::specs::Requests::answered, rules::specs::Requests::requested))]
 pub fn request(l: Ledger, r: Request) -> Answered
     ensures { result ≡ requested l r }
 {
