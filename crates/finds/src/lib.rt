@@ -7,103 +7,77 @@ ghost use Rattle.finds.specs.Held.{held_join};
 
 use rules::Finds;
 
-// The largest number of 32 bits, and the same as 64 bits.
-const LARGEST: u32 = 4294967295;
-
-const LIMIT: u64 = LARGEST as u64;
-
-// A joined result whose count is not yet known to fit 32 bits.
-#[derive(Clone, Copy)]
-struct Wide {
-    count: u64,
-    first: u32,
-    last: u32,
-}
-
 pub fn none() -> Finds
     ensures { result ≡ none }
 {
-    Finds {
-        count: 0,
-        first: 0,
-        last: 0,
-    }
+    Finds::default()
 }
 
+#[tactic(auto, unfolding(rules::specs::Joining::same_finds))]
 pub fn is_none(f: Finds) -> bool
     ensures { result ≡ is_none f }
 {
-    (f.count == 0) & (f.first == 0) & (f.last == 0)
-}
-
-// Whether a report may have these numbers: else 33.
-pub fn is_reportable(count: i32, first: i32, last: i32) -> bool
-    ensures { result ≡ reportable count first last }
-{
-    let counted = numbers::in_range(count, 0, Finds::MOST);
-    let opens = numbers::in_range(first, 0, Finds::MOST);
-    let closes = numbers::in_range(last, 0, Finds::MOST);
-    let bare = numbers::is_number(first, 0) & numbers::is_number(last, 0);
-    counted & opens & closes & (!numbers::is_number(count, 0) | bare)
+    f == none()
 }
 
 // Whether a result that is kept could have been reported.
+#[tactic(auto, unfolding(rules::specs::Joining::reportable))]
 pub fn passes(f: Finds) -> bool
     ensures { result ≡ passing f }
 {
-    let within = (f.count <= Finds::MOST) & (f.first <= Finds::MOST) & (f.last <= Finds::MOST);
-    within & (!(f.count == 0) | ((f.first == 0) & (f.last == 0)))
+    f.count <= Finds::MOST
+        && f.first <= Finds::MOST
+        && f.last <= Finds::MOST
+        && (f.count != 0 || f.first == 0 && f.last == 0)
+}
+
+// Whether a report may have these numbers: else 33.
+#[tactic(auto, unfolding(rules::specs::Joining::reportable))]
+pub fn is_reportable(count: i32, first: i32, last: i32) -> bool
+    ensures { result ≡ reportable count first last }
+{
+    match (
+        u32::try_from(count),
+        u32::try_from(first),
+        u32::try_from(last),
+    ) {
+        (Ok(count), Ok(first), Ok(last)) => passes(Finds { count, first, last }),
+        _ => false,
+    }
 }
 
 fn first_of(f: Finds, after: u32) -> u32
     ensures { result ≡ first_of f after }
 {
-    numbers::pick(f.count == 0, after, f.first)
+    if f.count == 0 { after } else { f.first }
 }
 
 fn last_of(f: Finds, before: u32) -> u32
     ensures { result ≡ last_of f before }
 {
-    numbers::pick(f.count == 0, before, f.last)
-}
-
-// Own, left, right. Three counts of any size make a sum in 64 bits.
-fn join_three(own: Finds, left: Finds, right: Finds) -> Wide
-    ensures count_value { result.count ≡ (join_all (own ∷ left ∷ right ∷ [])).count }
-    ensures first_value { result.first ≡ (join_all (own ∷ left ∷ right ∷ [])).first }
-    ensures last_value { result.last ≡ (join_all (own ∷ left ∷ right ∷ [])).last }
-{
-    let count = (own.count as u64) + (left.count as u64) + (right.count as u64);
-    let first = first_of(own, first_of(left, first_of(right, 0)));
-    let last = last_of(right, last_of(left, last_of(own, 0)));
-    Wide {
-        count: count,
-        first: first,
-        last: last,
-    }
-}
-
-// Whether a result is the three joined.
-pub fn is_joined(f: Finds, own: Finds, left: Finds, right: Finds) -> bool
-    ensures { result ≡ same_finds f (join_all (own ∷ left ∷ right ∷ [])) }
-{
-    let w = join_three(own, left, right);
-    ((f.count as u64) == w.count) & (f.first == w.first) & (f.last == w.last)
+    if f.count == 0 { before } else { f.last }
 }
 
 // The three joined. No count past 32 bits is ever asked for: the largest stands in for it.
+#[tactic(auto, using(crate::proofs::Held::three_count, crate::proofs::Held::three_first, crate::proofs::Held::three_last), unfolding(crate::specs::Held::held_join))]
 pub fn join_held(own: Finds, left: Finds, right: Finds) -> Finds
     ensures { result ≡ held_join own left right }
 {
-    let w = join_three(own, left, right);
-    let count = if w.count < LIMIT {
-        w.count as u32
-    } else {
-        LARGEST
-    };
     Finds {
-        count: count,
-        first: w.first,
-        last: w.last,
+        count: own
+            .count
+            .saturating_add(left.count)
+            .saturating_add(right.count),
+        first: first_of(own, first_of(left, first_of(right, 0))),
+        last: last_of(right, last_of(left, last_of(own, 0))),
     }
+}
+
+// Whether a result is the three joined. Three counts of any size make a sum in 64 bits.
+#[tactic(auto, using(crate::proofs::Held::three_count), unfolding(rules::specs::Joining::same_finds, crate::specs::Held::held_join))]
+pub fn is_joined(f: Finds, own: Finds, left: Finds, right: Finds) -> bool
+    ensures { result ≡ same_finds f (join_all (own ∷ left ∷ right ∷ [])) }
+{
+    let sum = u64::from(own.count) + u64::from(left.count) + u64::from(right.count);
+    u64::from(f.count) == sum && f == join_held(own, left, right)
 }

@@ -1,84 +1,58 @@
 -- What the tests of well formed need of the definitions, over plain variables.
-use mathlib.Core.Path.{◌≡◌, refl, sym, ap, ap₂, ◌∙◌}
-use mathlib.Core.Bool.{Bool, true, ◌&&◌, and-true, true-and, and-false, false-and, and_assoc}
+use mathlib.Core.Path.{◌≡◌, sym, ◌∙◌}
+use mathlib.Core.Bool.{Bool, false, cond, ◌&&◌, and-true, true-and, and_assoc}
 use mathlib.Core.List.{List, map}
-use Prim.Native.Nat.{ℕ, zero, suc, ◌+◌, ◌-◌, ◌%◌, ◌≤◌, ◌<◌}
-use native.Mathlib.Numerals.{add-one}
+use Prim.Native.Nat.{ℕ, ◌%◌, ◌<◌}
 use native.Mathlib.Decide.{dec_lt}
 use native.Mathlib.Omega.{arith}
-use lib.Dec.{eqb, leb}
+use lib.Dec.{eqb, leb, ltb}
 use lib.ListN.{length, length-map}
-use borrow.Author.Tests.{eq-eqb, ne_eqb, le-leb, le-ltb}
-use Rattle.rules.specs.declared.Node.{Node}
+use borrow.Author.Tests.{eq-eqb, ne_eqb, le-leb, lt-leb, lt-ltb, le-ltb}
+use Rattle.std.specs.declared.cmp.Ordering.{Ordering}
+use Rattle.std.specs.declared.cmp.Ordering.TheVariants.{Less, Equal, Greater}
+use Rattle.std.specs.declared.option.Option.{Option}
+use Rattle.std.specs.declared.option.Option.TheVariants.{Some}
+use Rattle.std.specs.declared.ops.RangeInclusive.{RangeInclusive}
+use Rattle.std.specs.Ordering.{partial_le}
+use Rattle.std.specs.Range.{range_inclusive_start, range_inclusive_end, range_inclusive_exhausted, range_inclusive_contains}
 use Rattle.rules.specs.declared.Ledger.{Ledger}
 use Rattle.rules.specs.Limits.{max_until, max_teams, max_nodes, opens}
-use Rattle.rules.specs.Nodes.{joined_of}
-use Rattle.rules.specs.States.{unready}
-use Rattle.rules.specs.WellFormed.{up_to, child_rule, stage_rule, numbers_rule}
-use Rattle.rules.proofs.Facts.{facts}
+use Rattle.rules.specs.WellFormed.{numbers_rule}
+
+-- ---- `(low..=high).contains(&x)`
+
+-- the order of unsigned numbers, as `contains` asks it
+abbrev order : ℕ → ℕ → Option Ordering
+order a b = Some (cond (ltb a b) Less (cond (eqb a b) Equal Greater))
+
+le_by_order : (a b : ℕ) → partial_le order a b ≡ leb a b
+le_by_order a b = go (dec_lt a b) (dec_lt b a)
+  where
+    go : Dec (a < b) → Dec (b < a) → partial_le order a b ≡ leb a b
+    go (yes h) d = rw (lt-ltb a b h, le-leb a b (omega arith))
+    go (no h) (yes k) = rw (le-ltb a b (omega arith), ne_eqb a b (λ e. omega arith), lt-leb a b k)
+    go (no h) (no k) = let e : a ≡ b = omega arith in rw (le-ltb a b (omega arith), eq-eqb a b e, le-leb a b (omega arith))
+
+pub contains_is : (s : RangeInclusive ℕ) (x : ℕ) (r : Bool) {low high : ℕ}
+    → range_inclusive_start s ≡ low
+    → range_inclusive_end s ≡ high
+    → range_inclusive_exhausted s ≡ false
+    → r ≡ range_inclusive_contains order s x
+    → r ≡ (leb low x && leb x high)
+contains_is s x r {low = low} {high = high} a b f e = e ∙ rw (a, b, f, le_by_order low x, le_by_order x high)
+
+-- ---- a ledger's numbers
 
 -- the tests of a ledger's numbers, without those that no unsigned number fails: 0 ≤ start, 0 ≤ until, and the cap of the least run
-pub numbers_are : (l : Ledger)
-    → ((leb l.start l.until && leb l.until max_until)
-    && (leb 1 l.teams && leb l.teams max_teams)
-    && (leb 1 l.room && leb l.room max_nodes)
-    && (eqb (l.used % 2) 1 && leb l.used l.room))
-    ≡ numbers_rule l
+pub numbers_are : (l : Ledger) {until teams room : Bool}
+    → until ≡ (leb l.start l.until && leb l.until max_until)
+    → teams ≡ (leb 1 l.teams && leb l.teams max_teams)
+    → room ≡ (leb 1 l.room && leb l.room max_nodes)
+    → ((((until && teams) && room) && eqb (l.used % 2) 1) && leb l.used l.room) ≡ numbers_rule l
 unfolding opens
-numbers_are l = rw (le-leb 0 l.start (omega arith), le-leb 0 l.until (omega arith)) (simp (and-true, true-and, and_assoc))
-
--- a ledger whose numbers are within their limits
-pub used_small : (l : Ledger) → numbers_rule l ≡ true → l.used ≤ max_nodes
-unfolding opens
-used_small l e = omega (arith, simp facts at e)
+numbers_are l a b c =
+    rw (a, b, c) (rw (le-leb 0 l.start (omega arith), le-leb 0 l.until (omega arith)) (simp (and-true, true-and, and_assoc)))
 
 -- the length of a table, of which owning it tells only through a map
 pub length_under : (X Y : Type 0) (f : X → Y) (l : List X) (n : ℕ) → length (map f l) ≡ n → length l ≡ n
 length_under X Y f l n p = sym (length-map l f) ∙ p
-
--- one more number passes a test, or does not
-pub up_to_none : (p : ℕ → Bool) → true ≡ up_to p 0
-unfolding up_to
-up_to_none p = refl
-
-pub up_to_more : (p : ℕ → Bool) (i : ℕ) {t u : Bool} → t ≡ up_to p i → u ≡ p (i + 1) → (t && u) ≡ up_to p (i + 1)
-unfolding up_to
-up_to_more p i e f = rw (add-one i, ← e, ← add-one i, ← f)
-
-pub up_to_same : (p q : ℕ → Bool) (k : ℕ) → ((n : ℕ) → 1 ≤ n → n ≤ k → p n ≡ q n) → up_to p k ≡ up_to q k
-unfolding up_to
-up_to_same p q zero h = refl
-up_to_same p q (suc k) h =
-    ap₂ ◌&&◌ (up_to_same p q k (λ n a b. h n a (omega arith))) (h (suc k) (omega arith) (omega arith))
-
--- a childless node's report does not see the children
-pub childless_stage : (x a b c d : Node) → x.left ≡ 0 → stage_rule x a b ≡ stage_rule x c d
-unfolding stage_rule joined_of unready
-childless_stage x a b c d e = rw (eq-eqb x.left 0 e)
-
--- a node x by itself, which passes or not, with the children a and b
-abbrev family : Bool → ℕ → ℕ → Node → Node → Node → Bool
-family alone n used x a b = alone && child_rule n used x a b && stage_rule x a b
-
--- the rules look at the children only where their numbers can be slots
-pub child_slots : (alone : Bool) (n used : ℕ) (x : Node) (slot node : ℕ → Node) (s : ℕ)
-    → used ≤ max_nodes
-    → ((i : ℕ) → node (i + 1) ≡ slot i)
-    → 1 ≤ s
-    → (1 ≤ x.left → x.left < max_nodes → s ≡ x.left)
-    → family alone n used x (slot (s - 1)) (slot s) ≡ family alone n used x (node x.left) (node (x.left + 1))
-unfolding child_rule
-child_slots alone n used x slot node s small same low is = go (dec_lt 0 x.left) (dec_lt x.left used)
-  where
-    go : Dec (0 < x.left)
-        → Dec (x.left < used)
-        → family alone n used x (slot (s - 1)) (slot s) ≡ family alone n used x (node x.left) (node (x.left + 1))
-    go (no z) d =
-        let e : x.left ≡ 0 = omega arith in
-        rw (eq-eqb x.left 0 e) (ap (λ (t : Bool). (alone && true) && t) (childless_stage x _ _ _ _ e))
-    go (yes p) (no z) = simp (ne_eqb x.left 0 (omega arith), le-ltb x.left used (omega arith), and-false, false-and)
-    go (yes p) (yes q) =
-        let e : s ≡ x.left = is p (omega arith) in
-        let one : x.left - 1 + 1 ≡ x.left = omega arith in
-        let a : slot (x.left - 1) ≡ node x.left = sym (same (x.left - 1)) ∙ ap node one in
-        rw (e, a, ← same x.left)

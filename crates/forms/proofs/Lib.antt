@@ -1,2 +1,6 @@
 pub mod Laws
-pub mod Counts
+pub mod UpTo
+pub mod Sums
+pub mod Reading
+pub mod Pairs
+pub mod Whole

@@ -3,8 +3,9 @@ use mathlib.Core.Path.{◌≡◌, refl, sym, ap, ◌∙◌}
 use mathlib.Core.List.{List, [], ◌∷◌, ◌++◌, append_assoc}
 use Prim.Native.Nat.{ℕ, zero, suc, ◌+◌, ◌*◌, ◌≤◌, ◌<◌}
 use native.Mathlib.Omega.{arith}
-use lib.ListN.{length, get_or, take, drop, length-append}
-use lib.Seq.{take-add, drop-drop}
+use lib.ListN.{length, get_or, take, drop, length-append, take-append-drop}
+use lib.Seq.{take-add, drop-drop, length-take-le}
+use Rattle.std.proofs.lemmas.List.{take_more}
 use Rattle.layout.specs.Numbers.{Bytes, words, number_at, four, fours, written}
 use Rattle.layout.proofs.Words.{number_four, number_drop, four_length, four_at, four_byte}
 use Rattle.layout.proofs.Writing.{written_on}
@@ -55,32 +56,22 @@ fours_back (suc k) at t b h =
 
 -- ---- written one after the other
 
--- the area s is bs with these numbers written from k on
-pub record Wrote (bs : List ℕ) (k : ℕ) (ns : List ℕ) (s : List ℕ) : Type 0 where
-  pub is : s ≡ written bs k (fours ns)
+pub fours_none : (bs : List ℕ) (k : ℕ) → bs ≡ written bs k (fours [])
+unfolding fours written
+fours_none bs k = let same : k + 0 ≡ k = omega arith in sym (rw same (take-append-drop k bs))
 
-pub wrote_first : {bs s : List ℕ} {k n : ℕ} → s ≡ written bs k (four n) → Wrote bs k (n ∷ []) s
-unfolding fours four
-wrote_first e = record { is = e }
-
--- more numbers, right after those
-pub wrote_more : {bs s t : List ℕ} {k : ℕ} {ms : List ℕ} (ns : List ℕ) (m : ℕ) → m ≡ k + 4 * length ms → m + 4 * length ns ≤ length bs
-    → Wrote bs k ms s
-    → t ≡ written s m (fours ns)
-    → Wrote bs k (ms ++ ns) t
-wrote_more {bs} {s} {t} {k} {ms} ns m e h w q =
-    record {
-      is =
-          q
-          ∙ (ap (λ (d : List ℕ). written d m (fours ns)) w.is
-          ∙ (written_on bs k m (fours ms) (fours ns) (omega (arith, fours-length ms)) (omega (arith, fours-length ns))
-          ∙ ap (written bs k) (sym (fours_append ms ns))));
-    }
-
--- one number more
-pub wrote_next : {bs s t : List ℕ} {k : ℕ} {ms : List ℕ} (n m : ℕ) → m ≡ k + 4 * length ms → m + 4 ≤ length bs
-    → Wrote bs k ms s
-    → t ≡ written s m (four n)
-    → Wrote bs k (ms ++ (n ∷ [])) t
+-- one number more of those in a list
+pub fours_more : (bs : List ℕ) (k i : ℕ) (ns : List ℕ) {n : ℕ} {s t : List ℕ} → i < length ns → n ≡ get_or ns i 0 → k + 4 * length ns ≤ length bs
+    → s ≡ written bs k (fours (take i ns))
+    → t ≡ written s (k + 4 * i) (four n)
+    → t ≡ written bs k (fours (take (i + 1) ns))
 unfolding fours
-wrote_next {ms = ms} n m e h w q = wrote_more (n ∷ []) m e (omega arith) w (q ∙ unfold four in refl)
+fours_more bs k i ns {n} h en long es et =
+    let ms = take i ns in
+    let size : length ms ≡ i = length-take-le i ns (omega arith) in
+    let one : take (i + 1) ns ≡ ms ++ (n ∷ []) = rw en (take_more ns i 0 h) in
+    let new : fours (n ∷ []) ≡ four n = unfold four in refl in
+    et
+    ∙ (ap (λ (d : List ℕ). written d (k + 4 * i) (four n)) es
+    ∙ (written_on bs k (k + 4 * i) (fours ms) (four n) (omega (arith, fours-length ms)) (omega (arith, four_length n))
+    ∙ rw (one, fours_append ms (n ∷ []), new) refl))

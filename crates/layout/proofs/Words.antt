@@ -1,5 +1,5 @@
 -- Four bytes and the number that they stand for, in both directions, and two's complement.
-use mathlib.Core.Path.{◌≡◌, refl, ap, ◌∙◌}
+use mathlib.Core.Path.{◌≡◌, refl, sym, ap, ◌∙◌}
 use mathlib.Core.List.{List, [], ◌∷◌, ◌++◌}
 use Prim.Native.Nat.{ℕ, zero, suc, ◌+◌, ◌-◌, ◌*◌, ◌/◌, ◌%◌, ◌≤◌, ◌<◌}
 use native.Mathlib.Decide.{dec_lt}
@@ -9,6 +9,11 @@ use lib.Signed.{mag}
 use lib.ListN.{length, get_or, take, drop, length-drop}
 use lib.Seq.{get_or-drop}
 use borrow.Author.Tests.{lt-ltb, le-ltb}
+use mir.Syntax.{w32}
+use mir.Val.{SFits, to_z, of_z}
+use mir.Facts.{to_z_pos}
+use Rattle.std.proofs.Math.Facts.{to_z-neg}
+use Rattle.std.specs.Int.{from_le_bytes, to_le_bytes}
 use Rattle.layout.specs.Numbers.{Bytes, words, number_at, four, signed_of, bits_of}
 
 -- ---- a number and its bytes
@@ -105,3 +110,32 @@ pub bits_small : (z : ℤ) → mag z < 2147483648 → bits_of z < words
 unfolding bits_of
 bits_small (pos n) h = omega arith
 bits_small (negsuc n) h = omega arith
+
+-- ---- what std's methods give
+
+-- the number in four bytes that stand in an array
+pub from_four : (bs : List ℕ) (k : ℕ)
+    → from_le_bytes w32 (get_or bs k 0 ∷ get_or bs (k + 1) 0 ∷ get_or bs (k + 2) 0 ∷ get_or bs (k + 3) 0 ∷ []) ≡ number_at bs k
+unfolding number_at
+from_four bs k = omega arith
+
+pub to_four : (n : ℕ) → to_le_bytes w32 n ≡ four n
+unfolding four
+to_four n =
+    let a : n / 65536 ≡ n / 256 / 256 = omega arith in
+    let b : n / 16777216 ≡ n / 256 / 256 / 256 = omega arith in
+    rw (a, b)
+
+pub signed_is : (n : ℕ) → n < words → to_z w32 n ≡ signed_of n
+signed_is n h = go (dec_lt n 2147483648)
+  where
+    go : Dec (n < 2147483648) → to_z w32 n ≡ signed_of n
+    go (yes k) = to_z_pos w32 {n = n} (omega arith) ∙ sym (signed_low n k)
+    go (no k) =
+        let e : n ≡ words - suc (4294967295 - n) = omega arith in
+        ap (to_z w32) e ∙ (to_z-neg w32 (4294967295 - n) (omega arith) ∙ sym (signed_high n (omega arith)))
+
+pub bits_held : (z : ℤ) → SFits w32 z → of_z w32 z ≡ bits_of z
+unfolding bits_of
+bits_held (pos n) f = refl
+bits_held (negsuc n) f = omega arith

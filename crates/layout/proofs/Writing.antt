@@ -1,24 +1,17 @@
 -- Bytes written over an area.
-use mathlib.Core.Path.{◌≡◌, sym, ap, ◌∙◌}
-use mathlib.Core.List.{List, [], ◌∷◌, ◌++◌, append_assoc}
-use Prim.Native.Nat.{ℕ, suc, ◌+◌, ◌≤◌}
+use mathlib.Core.Path.{◌≡◌, refl, sym, ap, ◌∙◌}
+use mathlib.Core.List.{List, ◌++◌, append_assoc}
+use Prim.Native.Nat.{ℕ, ◌+◌, ◌≤◌}
 use native.Mathlib.Omega.{arith}
-use lib.ListN.{length, take, drop, set, length-append}
+use lib.ListN.{length, take, drop, length-append}
 use lib.Seq.{sets, sets-eq, length-sets, length-take-le, take_at, take-append-add, drop-append-add, drop-drop}
+use borrow.Rule.Slice.PartMut.{put_mid}
 use Rattle.layout.specs.Numbers.{written}
 
 -- stores one after the other
 pub sets_written : (bs : List ℕ) (k : ℕ) (new : List ℕ) → k + length new ≤ length bs → sets bs k new ≡ written bs k new
 unfolding written
 sets_written bs k new h = sets-eq new bs k h ∙ append_assoc (take k bs) new (drop (k + length new) bs)
-
-pub four_stores : (bs : List ℕ) (k a b c d : ℕ) → k + 4 ≤ length bs
-    → set (set (set (set bs k a) (k + 1) b) (k + 2) c) (k + 3) d ≡ written bs k (a ∷ b ∷ c ∷ d ∷ [])
-four_stores bs k a b c d h =
-    let e1 : k + 1 ≡ suc k = omega arith in
-    let e2 : k + 2 ≡ suc (suc k) = omega arith in
-    let e3 : k + 3 ≡ suc (suc (suc k)) = omega arith in
-    rw (e1, e2, e3) (sets_written bs k (a ∷ b ∷ c ∷ d ∷ []) (omega arith))
 
 -- an area keeps its length
 pub written_length : (bs : List ℕ) (k : ℕ) (new : List ℕ) → k + length new ≤ length bs → length (written bs k new) ≡ length bs
@@ -53,3 +46,8 @@ written_past p r n k new e =
 pub written_front : (bs new : List ℕ) → written bs 0 new ≡ new ++ drop (length new) bs
 unfolding written
 written_front bs new = let z : 0 + length new ≡ length new = omega arith in rw z
+
+-- what was copied into the part of an area that begins at a place
+pub copied : (bs new : List ℕ) (at k : ℕ) → k ≡ length new → put_mid at k bs new ≡ written bs at new
+unfolding written
+copied bs new at k e = rw (drop-drop k at bs, e) refl

@@ -1,5 +1,6 @@
 -- A ledger as bytes.
 pub mod Sizes
 pub mod Numbers
+pub mod Places
 pub mod Areas
 pub mod Demands

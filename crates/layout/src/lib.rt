@@ -1,13 +1,17 @@
 // Numbers, results and nodes in an area of bytes: read one at a time, and written one at a time.
 #![tactic(auto)]
 
-ghost use Rattle.std.specs.Prelude.{◌≡◌, ◌+◌, ◌≤◌, ◌<◌, length};
-ghost use Rattle.rules.specs.Nodes.{PREPARED, PUSHED};
-ghost use Rattle.layout.specs.Sizes.{area_size, slot_place, own_place, joined_place, stage_place, owner_place, progress_place, left_place};
-ghost use Rattle.layout.specs.Numbers.{number_at, four, fours, signed_of, bits_of, written};
+ghost use Rattle.std.specs.Prelude.{◌≡◌, ◌+◌, ◌*◌, ◌≤◌, length};
+ghost use Rattle.layout.specs.Sizes.{area_size, slot_place, progress_place, stage_place};
+ghost use Rattle.layout.specs.Numbers.{number_at, four, fours, bits_of, written};
 ghost use Rattle.layout.specs.Areas.{finds_at, slot_at, node_bytes, result_fields};
+ghost use Rattle.layout.specs.Places.{place_of, result_place};
 
 use rules::{Finds, Node};
+
+mod places;
+
+pub use places::{Field, Found};
 
 // Bytes of the ledger's five numbers, of a node and of an answer.
 pub const HEAD: usize = 20;
@@ -21,76 +25,79 @@ pub const TEAMS: usize = 8;
 pub const ROOM: usize = 12;
 
 pub const USED: usize = 16;
-// Where a node's numbers stand in its bytes.
-const PROGRESS: usize = 8;
-
-const OWNER: usize = 12;
-
-const LEFT: usize = 16;
-
-const OWN: usize = 20;
-
-const JOINED: usize = 32;
-
-const STAGE: usize = 44;
-// All of 32 bits set.
-const ONES: u32 = 4294967295;
-
-fn wide(b: u8) -> u32
-    ensures { (result ≡ b) × (b < 256) }
-{
-    b as u32
-}
 
 // The number in the four bytes from a place on, the least byte first. The compiler makes one load of it.
-#[tactic(auto, unfolding(crate::specs::Numbers::number_at))]
+#[tactic(auto, using(crate::proofs::Words::from_four))]
 pub fn number_at(bytes: &[u8], at: usize) -> u32
     requires { at + 4 ≤ length bytes.now }
     ensures { result ≡ number_at bytes.now at }
 {
-    let a = wide(bytes[at]);
-    let b = wide(bytes[at + 1]);
-    let c = wide(bytes[at + 2]);
-    let d = wide(bytes[at + 3]);
-    a + 256 * b + 65536 * c + 16777216 * d
+    u32::from_le_bytes([bytes[at], bytes[at + 1], bytes[at + 2], bytes[at + 3]])
 }
 
-// Two's complement, read.
-fn signed_of(n: u32) -> i32
-    ensures { result ≡ signed_of n }
+// Writes a number into the four bytes from a place on.
+pub fn put_number(bytes: &mut [u8], at: usize, n: u32)
+    requires { at + 4 ≤ length bytes.old }
+    ensures { bytes.new ≡ written bytes.old at (four n) }
 {
-    if n < 2147483648 {
-        n as i32
-    } else {
-        numbers::mark_of((ONES - n) as i32)
+    bytes[at..at + 4].copy_from_slice(&n.to_le_bytes());
+}
+
+// Writes numbers one after the other from a place on.
+pub fn put_numbers(bytes: &mut [u8], at: usize, ns: &[u32])
+    requires { at + 4 * length ns.now ≤ length bytes.old }
+    ensures { bytes.new ≡ written bytes.old at (fours ns.now) }
+{
+    for (i, n) in ns.iter().enumerate() {
+        put_number(bytes, at + 4 * i, *n);
     }
 }
 
-// Two's complement, written.
-#[tactic(auto, unfolding(crate::specs::Numbers::bits_of))]
-fn bits_of(p: i32) -> u32
-    ensures { result ≡ bits_of p }
+fn field_in(bytes: &[u8], i: usize, f: Field) -> u32
+    requires { area_size (i + 1) ≤ length bytes.now }
+    ensures { result ≡ number_at bytes.now (slot_place i + place_of f) }
 {
-    if p < 0 {
-        ONES - numbers::position_of(p)
-    } else {
-        numbers::position_of(p)
-    }
+    number_at(bytes, HEAD + NODE * i + f.place())
+}
+
+// Writes one number of the node in a slot.
+pub fn put_field(bytes: &mut [u8], i: usize, f: Field, n: u32)
+    requires { area_size (i + 1) ≤ length bytes.old }
+    ensures { bytes.new ≡ written bytes.old (slot_place i + place_of f) (four n) }
+{
+    put_number(bytes, HEAD + NODE * i + f.place(), n);
+}
+
+// Writes how far the node in a slot has come.
+#[tactic(auto, using(crate::proofs::Words::bits_held))]
+pub fn put_progress(bytes: &mut [u8], i: usize, progress: i32)
+    requires { area_size (i + 1) ≤ length bytes.old }
+    ensures { bytes.new ≡ written bytes.old (slot_place i + progress_place) (four (bits_of progress)) }
+{
+    put_field(bytes, i, Field::Progress, progress.cast_unsigned());
 }
 
 #[tactic(auto, unfolding(crate::specs::Areas::finds_at))]
-fn finds_at(bytes: &[u8], at: usize) -> Finds
-    requires { at + 12 ≤ length bytes.now }
-    ensures { result ≡ finds_at bytes.now at }
+fn finds_in(bytes: &[u8], i: usize, f: Found) -> Finds
+    requires { area_size (i + 1) ≤ length bytes.now }
+    ensures { result ≡ finds_at bytes.now (slot_place i + result_place f) }
 {
-    let count = number_at(bytes, at);
-    let first = number_at(bytes, at + 4);
-    let last = number_at(bytes, at + 8);
+    let at = HEAD + NODE * i + f.place();
     Finds {
-        count: count,
-        first: first,
-        last: last,
+        count: number_at(bytes, at),
+        first: number_at(bytes, at + 4),
+        last: number_at(bytes, at + 8),
     }
+}
+
+// Writes one result of the node in a slot, and the stage that the node has with it.
+pub fn put_result(bytes: &mut [u8], i: usize, f: Found, x: Finds, stage: u32)
+    requires { area_size (i + 1) ≤ length bytes.old }
+    ensures { bytes.new ≡ written (written bytes.old (slot_place i + result_place f) (fours (result_fields x))) (slot_place i + stage_place) (four stage) }
+{
+    let at = HEAD + NODE * i + f.place();
+    put_numbers(bytes, at, &[x.count, x.first, x.last]);
+    put_field(bytes, i, Field::Stage, stage);
 }
 
 // The node in a slot of the area.
@@ -98,108 +105,38 @@ pub fn slot_in(bytes: &[u8], i: usize) -> Node
     requires { area_size (i + 1) ≤ length bytes.now }
     ensures { result ≡ slot_at bytes.now i }
 {
-    let at = HEAD + NODE * i;
-    let start = number_at(bytes, at);
-    let until = number_at(bytes, at + 4);
-    let bits = number_at(bytes, at + PROGRESS);
-    let owner = number_at(bytes, at + OWNER);
-    let left = number_at(bytes, at + LEFT);
-    let own = finds_at(bytes, at + OWN);
-    let joined = finds_at(bytes, at + JOINED);
-    let stage = number_at(bytes, at + STAGE);
-    let progress = signed_of(bits);
     Node {
-        start: start,
-        until: until,
-        progress: progress,
-        owner: owner,
-        left: left,
-        own: own,
-        joined: joined,
-        stage: stage,
+        start: field_in(bytes, i, Field::Start),
+        until: field_in(bytes, i, Field::Until),
+        progress: field_in(bytes, i, Field::Progress).cast_signed(),
+        owner: field_in(bytes, i, Field::Owner),
+        left: field_in(bytes, i, Field::Left),
+        own: finds_in(bytes, i, Found::Own),
+        joined: finds_in(bytes, i, Found::Joined),
+        stage: field_in(bytes, i, Field::Stage),
     }
 }
 
-// Writes a number into the four bytes from a place on.
-#[tactic(auto, using(crate::proofs::Writing::four_stores), unfolding(crate::specs::Numbers::four))]
-pub fn put_number(bytes: &mut [u8], at: usize, n: u32)
-    requires { at + 4 ≤ length bytes.old }
-    ensures { bytes.new ≡ written bytes.old at (four n) }
-{
-    bytes[at] = (n % 256) as u8;
-    bytes[at + 1] = (n / 256 % 256) as u8;
-    bytes[at + 2] = (n / 256 / 256 % 256) as u8;
-    bytes[at + 3] = (n / 256 / 256 / 256 % 256) as u8;
-}
-
-fn put_finds(bytes: &mut [u8], at: usize, f: Finds)
-    requires { at + 12 ≤ length bytes.old }
-    ensures { bytes.new ≡ written bytes.old at (fours (result_fields f)) }
-{
-    put_number(bytes, at, f.count);
-    put_number(bytes, at + 4, f.first);
-    put_number(bytes, at + 8, f.last);
-}
-
 // Writes a whole node into a slot of the area.
+#[tactic(auto, using(crate::proofs::Words::bits_held), unfolding(crate::specs::Areas::node_bytes, crate::specs::Areas::node_fields))]
 pub fn put_slot(bytes: &mut [u8], i: usize, x: Node)
     requires { area_size (i + 1) ≤ length bytes.old }
     ensures { bytes.new ≡ written bytes.old (slot_place i) (node_bytes x) }
 {
-    let at = HEAD + NODE * i;
-    let last = at + STAGE;
-    let bits = bits_of(x.progress);
-    let own = x.own;
-    let joined = x.joined;
-    put_number(bytes, at, x.start);
-    put_number(bytes, at + 4, x.until);
-    put_number(bytes, at + PROGRESS, bits);
-    put_number(bytes, at + OWNER, x.owner);
-    put_number(bytes, at + LEFT, x.left);
-    put_finds(bytes, at + OWN, own);
-    put_finds(bytes, at + JOINED, joined);
-    put_number(bytes, last, x.stage);
-}
-
-// The rest write only the numbers of a slot that a change moves.
-pub fn put_owner(bytes: &mut [u8], i: usize, owner: u32)
-    requires { area_size (i + 1) ≤ length bytes.old }
-    ensures { bytes.new ≡ written bytes.old (slot_place i + owner_place) (four owner) }
-{
-    put_number(bytes, HEAD + NODE * i + OWNER, owner);
-}
-
-pub fn put_progress(bytes: &mut [u8], i: usize, progress: i32)
-    requires { area_size (i + 1) ≤ length bytes.old }
-    ensures { bytes.new ≡ written bytes.old (slot_place i + progress_place) (four (bits_of progress)) }
-{
-    let bits = bits_of(progress);
-    put_number(bytes, HEAD + NODE * i + PROGRESS, bits);
-}
-
-pub fn put_left(bytes: &mut [u8], i: usize, left: u32)
-    requires { area_size (i + 1) ≤ length bytes.old }
-    ensures { bytes.new ≡ written bytes.old (slot_place i + left_place) (four left) }
-{
-    put_number(bytes, HEAD + NODE * i + LEFT, left);
-}
-
-// The own result, and the stage of a node that is prepared.
-pub fn put_own(bytes: &mut [u8], i: usize, f: Finds)
-    requires { area_size (i + 1) ≤ length bytes.old }
-    ensures { bytes.new ≡ written (written bytes.old (slot_place i + own_place) (fours (result_fields f))) (slot_place i + stage_place) (four PREPARED) }
-{
-    let at = HEAD + NODE * i;
-    put_finds(bytes, at + OWN, f);
-    put_number(bytes, at + STAGE, Node::PREPARED);
-}
-
-// The joined result, and the stage of a node that is pushed.
-pub fn put_joined(bytes: &mut [u8], i: usize, f: Finds)
-    requires { area_size (i + 1) ≤ length bytes.old }
-    ensures { bytes.new ≡ written (written bytes.old (slot_place i + joined_place) (fours (result_fields f))) (slot_place i + stage_place) (four PUSHED) }
-{
-    let at = HEAD + NODE * i;
-    put_finds(bytes, at + JOINED, f);
-    put_number(bytes, at + STAGE, Node::PUSHED);
+    let Node { own, joined, .. } = x;
+    let numbers = [
+        x.start,
+        x.until,
+        x.progress.cast_unsigned(),
+        x.owner,
+        x.left,
+        own.count,
+        own.first,
+        own.last,
+        joined.count,
+        joined.first,
+        joined.last,
+        x.stage,
+    ];
+    put_numbers(bytes, HEAD + NODE * i, &numbers);
 }

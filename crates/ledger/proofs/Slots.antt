@@ -1,18 +1,22 @@
 -- A request stores into slots of the table alone, its node's and those of the pair that every STOLEN node has, and within the limits.
+use mathlib.Core.Path.{◌≡◌}
 use Prim.Native.Nat.{ℕ, ◌≤◌}
 use native.Mathlib.Omega.{arith}
 use Rattle.rules.specs.declared.Ledger.{Ledger}
 use Rattle.rules.specs.declared.Request.{Request}
 use Rattle.rules.specs.declared.Change.{Change}
+use Rattle.rules.specs.declared.Outcome.{Outcome}
+use Rattle.rules.specs.declared.View.{View}
 use Rattle.rules.specs.Limits.{max_until}
 use Rattle.rules.specs.Nodes.{position_of, middle}
 use Rattle.rules.specs.Requests.{decided, view, node_in}
 use Rattle.rules.specs.Table.{InUse, at}
+use Rattle.rules.specs.WellFormed.{Sound}
 use Rattle.rules.proofs.Changed.{Changes, keeps, owns, advances, marks, splits, reports, pushes, changes}
 use Rattle.rules.proofs.FindsFit.{joined_fits}
 use Rattle.rules.proofs.Range.{within_range}
 use Rattle.rules.proofs.Spare.{spare, pair_fits}
-use Rattle.rules.proofs.Record.{WF, used_high, sound}
+use Rattle.rules.proofs.Record.{WF, rules, used_high, sound}
 use Rattle.ledger.specs.Slots.{IsSlot, Stores}
 
 module _ (l : Ledger) (w : WF l) (n : ℕ) where
@@ -44,5 +48,13 @@ module _ (l : Ledger) (w : WF l) (n : ℕ) where
       let fits = joined_fits l n (sound l w) u in
       (in_slot u, omega (arith, used_high l w))
 
-pub request_stores : (l : Ledger) → WF l → (r : Request) → Stores l (node_in r) (decided (view l (node_in r)) r).change
-request_stores l w r = in_limits l w (node_in r) (changes l r)
+-- n is the request's node, and o what is decided by its view
+pub request_stores : (l : Ledger) (r : Request) {n : ℕ} {v : View} {o : Outcome}
+    → Sound l
+    → node_in r ≡ n
+    → v ≡ view l n
+    → o ≡ decided v r
+    → Stores l n o.change
+request_stores l r s en ev eo =
+    let w = rules l s in
+    rw (eo, ev, ← en) (in_limits l w (node_in r) (changes l r))

@@ -15,14 +15,13 @@ fn blank_table() -> [Node; Opening::NODES]
 pub(crate) fn closed_ledger() -> Ledger
     ensures { result ≡ closed }
 {
-    let nodes = blank_table();
     Ledger {
         start: 0,
         until: 0,
         teams: 0,
         room: 0,
         used: 0,
-        nodes: nodes,
+        nodes: blank_table(),
     }
 }
 
@@ -34,15 +33,14 @@ pub(crate) fn opened_by(o: Opening) -> Ledger
     let until = numbers::natural(o.until);
     let teams = numbers::natural(o.teams);
     let room = numbers::natural(o.nodes);
-    let root = nodes::fresh_node(start, until);
     let mut nodes = blank_table();
-    nodes[0] = root;
+    nodes[0] = nodes::fresh_node(start, until);
     Ledger {
-        start: start,
-        until: until,
-        teams: teams,
-        room: room,
+        start,
+        until,
+        teams,
+        room,
         used: 1,
-        nodes: nodes,
+        nodes,
     }
 }

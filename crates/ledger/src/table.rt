@@ -1,15 +1,15 @@
-// The table of nodes. A table that stands somewhere else, as in a run, is read by `slot_for`, `node_for` and `view_by`; the others take a ledger
-// by value: reading and storing a node, the unclaimed count, the view of a request, and the ledger after a change.
-ghost use Rattle.std.specs.Prelude.{◌≡◌, ◌+◌, ◌≤◌, max, get_or};
+// The table of nodes. A table that stands somewhere else, as in a run, is read by `slot_for`, `node_for` and `view_by`; the others borrow a
+// ledger: the view of a request, and the change that a granted request or a step makes.
+ghost use Rattle.std.specs.Prelude.{◌≡◌, ◌+◌, ◌-◌, ◌≤◌, set};
 ghost use Rattle.rules.specs.Limits.{max_nodes};
-ghost use Rattle.rules.specs.Nodes.{blank, parted, left_part};
+ghost use Rattle.rules.specs.Nodes.{parted, left_part};
 ghost use Rattle.rules.specs.Table.{at, put, grown};
 ghost use Rattle.rules.specs.Requests.{view, changed};
-ghost use Rattle.rules.specs.Count.{unclaimed};
 ghost use Rattle.nodes.specs.Makers.{held_right, held_pushed};
 ghost use Rattle.ledger.specs.Slots.{IsSlot, Stores};
 ghost use Rattle.ledger.specs.Table.{slot_for, node_for, view_by};
 
+use forms::Table;
 use rules::{Change, Ledger, Node, Opening, View};
 
 // The slots of the table, as a number of nodes, and the last of them.
@@ -21,7 +21,7 @@ const LAST: u32 = SLOTS - 1;
 pub fn slot_for(n: u32) -> usize
     ensures { result ≡ slot_for n }
 {
-    numbers::lesser(numbers::less_by(n, 1), LAST) as usize
+    n.saturating_sub(1).min(LAST) as usize
 }
 
 // Node n, where x stands in that slot.
@@ -35,139 +35,71 @@ pub fn node_for(n: u32, x: Node) -> Node
 pub fn view_by(teams: u32, room: u32, used: u32, stolen: u32, pair: u32, x: Node) -> View
     ensures { result ≡ view_by teams room used stolen pair x }
 {
-    let none = nodes::blank_node();
     View {
-        teams: teams,
-        room: room,
-        used: used,
-        stolen: stolen,
-        pair: pair,
+        teams,
+        room,
+        used,
+        stolen,
+        pair,
         node: x,
-        left: none,
-        right: none,
+        left: nodes::blank_node(),
+        right: nodes::blank_node(),
     }
 }
 
-fn node_in(l: Ledger, slot: usize) -> Node
-    ensures { result ≡ get_or l.nodes slot blank }
+#[tactic(auto, unfolding(rules::specs::Requests::view, rules::specs::Table::next_pair, rules::specs::Table::stolen_in))]
+pub(crate) fn view_of(l: &Ledger, n: u32) -> View
+    requires { l.now.used ≤ max_nodes }
+    ensures { result ≡ view l.now n }
 {
+    l.view(forms::stolen_in(&l.nodes), l.used + 1, n)
+}
+
+// Node n becomes x. A number past the table has no slot, and nothing changes.
+fn store(nodes: &mut [Node; Opening::NODES], n: u32, x: Node)
+    ensures { nodes.new ≡ set nodes.old (n - 1) x }
+{
+    let slot = n.saturating_sub(1) as usize;
     if slot < Opening::NODES {
-        l.nodes[slot]
-    } else {
-        nodes::blank_node()
+        nodes[slot] = x;
     }
 }
 
-#[tactic(auto, unfolding(rules::specs::Table::at))]
-fn node_at(l: Ledger, n: u32) -> Node
-    ensures { result ≡ at l n }
+#[tactic(auto, unfolding(rules::specs::Table::put, rules::specs::Table::grown))]
+fn split(l: &mut Ledger, n: u32, pair: u32)
+    requires { IsSlot (pair + 1) }
+    ensures { l.new ≡ grown (put (put (put l.old n (parted (at l.old n) pair)) pair (left_part (at l.old n))) (pair + 1) (held_right (at l.old n))) pair }
 {
-    node_in(l, numbers::less_by(n, 1) as usize)
+    let x = l.node(n);
+    store(&mut l.nodes, n, nodes::parted_at(x, pair));
+    store(&mut l.nodes, pair, nodes::left_part(x));
+    store(&mut l.nodes, pair + 1, nodes::right_part(x));
+    l.used = l.used.max(pair + 1);
 }
 
-// A request that is granted stores into slots of the table, so none is tested here.
 #[tactic(auto, unfolding(rules::specs::Table::put))]
-fn with_node(l: Ledger, n: u32, x: Node) -> Ledger
-    requires { IsSlot n }
-    ensures { result ≡ put l n x }
+fn push(l: &mut Ledger, n: u32)
+    ensures { l.new ≡ put l.old n (held_pushed (at l.old n) (at l.old (at l.old n).left) (at l.old ((at l.old n).left + 1))) }
 {
-    let slot = (n - 1) as usize;
-    let mut m = l;
-    m.nodes[slot] = x;
-    m
+    let x = l.node(n);
+    let (left, right) = l.children(x);
+    store(&mut l.nodes, n, nodes::pushed_by(x, left, right));
 }
 
-fn larger(a: u32, b: u32) -> u32
-    ensures { result ≡ max a b }
+// What a granted request, or a step, does to node n. A node that changes is in its slot.
+#[tactic(auto, using(nodes::proofs::Makers::right_within, nodes::proofs::Makers::pushed_within), unfolding(rules::specs::Requests::changed, rules::specs::Table::put, rules::specs::Table::at))]
+pub fn change(l: &mut Ledger, n: u32, c: Change)
+    requires { Stores l.old n c }
+    ensures { l.new ≡ changed l.old n c }
 {
-    if a < b { b } else { a }
-}
-
-#[tactic(auto, unfolding(rules::specs::Table::grown))]
-fn with_pair_used(l: Ledger, pair: u32) -> Ledger
-    requires { IsSlot pair }
-    ensures { result ≡ grown l pair }
-{
-    let mut m = l;
-    m.used = larger(l.used, pair + 1);
-    m
-}
-
-#[tactic(auto, using(rules::proofs::Sums::sum_by_next, rules::proofs::Sums::sum_by_none, forms::proofs::Laws::length_under), unfolding(rules::specs::Count::unclaimed))]
-pub(crate) fn unclaimed_in(l: Ledger) -> u64
-    ensures { result ≡ unclaimed l }
-{
-    let mut k: u64 = 0;
-    let mut i: usize = 0;
-    while i < Opening::NODES {
-        let x = l.nodes[i];
-        k += nodes::rest_of(x) as u64;
-        i += 1;
-    }
-    k
-}
-
-// Node n stands in slot n - 1, so the slot after the left child's has the left child's number.
-#[tactic(auto, using(rules::proofs::Nodes::at_next))]
-fn right_of(l: Ledger, x: Node) -> Node
-    ensures { result ≡ at l (x.left + 1) }
-{
-    node_in(l, x.left as usize)
-}
-
-#[tactic(auto, unfolding(rules::specs::Requests::view, rules::specs::Table::next_pair))]
-pub(crate) fn view_of(l: Ledger, n: u32) -> View
-    requires { l.used ≤ max_nodes }
-    ensures { result ≡ view l n }
-{
-    let x = node_at(l, n);
-    let left = node_at(l, x.left);
-    let right = right_of(l, x);
-    let k = forms::stolen_in(l);
-    View {
-        teams: l.teams,
-        room: l.room,
-        used: l.used,
-        stolen: k,
-        pair: l.used + 1,
-        node: x,
-        left: left,
-        right: right,
-    }
-}
-
-fn split_at(l: Ledger, n: u32, x: Node, pair: u32) -> Ledger
-    requires { IsSlot n × IsSlot pair × IsSlot (pair + 1) }
-    ensures { result ≡ grown (put (put (put l n (parted x pair)) pair (left_part x)) (pair + 1) (held_right x)) pair }
-{
-    let one = with_node(l, n, nodes::parted_at(x, pair));
-    let two = with_node(one, pair, nodes::left_part(x));
-    let three = with_node(two, pair + 1, nodes::right_part(x));
-    with_pair_used(three, pair)
-}
-
-fn push_at(l: Ledger, n: u32, x: Node) -> Ledger
-    requires { IsSlot n }
-    ensures { result ≡ put l n (held_pushed x (at l x.left) (at l (x.left + 1))) }
-{
-    let left = node_at(l, x.left);
-    let right = right_of(l, x);
-    with_node(l, n, nodes::pushed_by(x, left, right))
-}
-
-#[tactic(auto, using(crate::proofs::Laws::advanced_put, crate::proofs::Laws::marked_put, crate::proofs::Laws::pushed_put), unfolding(rules::specs::Requests::changed))]
-pub(crate) fn changed_by(l: Ledger, n: u32, c: Change) -> Ledger
-    requires { Stores l n c }
-    ensures { result ≡ changed l n c }
-{
-    let x = node_at(l, n);
+    let slot = n.saturating_sub(1) as usize;
     match c {
-        Change::Keep => l,
-        Change::Own(team) => with_node(l, n, nodes::owned_by(x, team)),
-        Change::Advance(p) => with_node(l, n, nodes::advanced_to(x, p)),
-        Change::Mark(p) => with_node(l, n, nodes::marked_at(x, p)),
-        Change::Split(pair) => split_at(l, n, x, pair),
-        Change::Report(f) => with_node(l, n, nodes::reported_by(x, f)),
-        Change::Push => push_at(l, n, x),
+        Change::Keep => {}
+        Change::Own(team) => l.nodes[slot] = nodes::owned_by(l.nodes[slot], team),
+        Change::Advance(p) => l.nodes[slot] = nodes::advanced_to(l.nodes[slot], p),
+        Change::Mark(p) => l.nodes[slot] = nodes::marked_at(l.nodes[slot], p),
+        Change::Split(pair) => split(l, n, pair),
+        Change::Report(f) => l.nodes[slot] = nodes::reported_by(l.nodes[slot], f),
+        Change::Push => push(l, n),
     }
 }

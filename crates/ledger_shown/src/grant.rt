@@ -1,105 +1,94 @@
 // Granted requests: each kind, look in each of the five states, and the ends of a range.
-use crate::ask;
+use crate::ask::{show, show_all, tested};
+use rules::{Refusal, Request};
+use shown::Tests;
+use shown::asks::{advance, expand, look, mark, own};
+use shown::tables::{opened, rooted};
 use std::io;
 
 // One ledger through every state of its root, and of its children.
 fn states(rt: &impl Print) -> io::Result<()> {
-    let mut l = ask::opened(0, 8, 2, 7);
-    l = ask::show(rt, l, ask::LOOK, 1, 1, 0, 0)?;
-    l = ask::show(rt, l, ask::OWN, 1, 1, 0, 0)?;
-    l = ask::show(rt, l, ask::LOOK, 2, 1, 0, 0)?;
-    l = ask::show(rt, l, ask::ADVANCE, 1, 1, 0, 2)?;
-    l = ask::show(rt, l, ask::ADVANCE, 1, 1, 2, 1)?;
-    l = ask::show(rt, l, ask::MARK, 2, 1, 3, 0)?;
-    l = ask::show(rt, l, ask::LOOK, 1, 1, 0, 0)?;
-    l = ask::show(rt, l, ask::EXPAND, 2, 1, 0, 0)?;
-    l = ask::show(rt, l, ask::LOOK, 1, 1, 0, 0)?;
-    l = ask::show(rt, l, ask::LOOK, 1, 2, 0, 0)?;
-    l = ask::show(rt, l, ask::LOOK, 1, 3, 0, 0)?;
-    l = ask::show(rt, l, ask::OWN, 1, 2, 0, 0)?;
-    l = ask::show(rt, l, ask::OWN, 2, 3, 0, 0)?;
-    l = ask::show(rt, l, ask::ADVANCE, 1, 2, 3, 4096)?;
-    l = ask::show(rt, l, ask::LOOK, 2, 2, 0, 0)?;
-    l = ask::show(rt, l, ask::ADVANCE, 2, 3, 5, 2)?;
-    l = ask::show(rt, l, ask::ADVANCE, 2, 3, 7, 1)?;
-    ask::show(rt, l, ask::LOOK, 2, 3, 0, 0)?;
+    let requests = [
+        look(1, 1),
+        own(1, 1),
+        look(2, 1),
+        advance(1, 1, 0, 2),
+        advance(1, 1, 2, 1),
+        mark(2, 1, 3),
+        look(1, 1),
+        expand(2, 1),
+        look(1, 1),
+        look(1, 2),
+        look(1, 3),
+        own(1, 2),
+        own(2, 3),
+        advance(1, 2, 3, 4096),
+        look(2, 2),
+        advance(2, 3, 5, 2),
+        advance(2, 3, 7, 1),
+        look(2, 3),
+    ];
+    show_all(rt, opened(0, 8, 2, 7), &requests)?;
     Ok(())
 }
 
 // The last sheet of a silent laptop: the mark is granted, the left node is empty, COMPLETED and nobody's, and the right one has the sheet.
 fn last_sheet(rt: &impl Print) -> io::Result<()> {
-    let mut l = ask::rooted(5, 7, 4, 1);
-    l = ask::show(rt, l, ask::MARK, 2, 1, 4, 0)?;
-    l = ask::show(rt, l, ask::EXPAND, 2, 1, 0, 0)?;
-    l = ask::show(rt, l, ask::LOOK, 2, 2, 0, 0)?;
-    l = ask::tested(rt, 6, 0, l, ask::OWN, 2, 2, 0, 0)?;
-    l = ask::show(rt, l, ask::OWN, 2, 3, 0, 0)?;
-    ask::show(rt, l, ask::ADVANCE, 2, 3, 4, 1)?;
+    let requests = [mark(2, 1, 4), expand(2, 1), look(2, 2)];
+    let mut l = show_all(rt, rooted(5, 7, 4, 1), &requests)?;
+    l = tested(rt, Tests::One(Refusal::Completed), l, own(2, 2))?;
+    show_all(rt, l, &[own(2, 3), advance(2, 3, 4, 1)])?;
     Ok(())
 }
 
 // Fields that a kind does not read may hold anything.
 fn unread(rt: &impl Print) -> io::Result<()> {
-    let mut l = ask::opened(0, 2, 2, 3);
-    l = ask::show(rt, l, ask::OWN, 1, 1, -2147483648, -2147483648)?;
-    l = ask::show(rt, l, ask::MARK, 2, 1, 0, -2147483648)?;
-    l = ask::show(rt, l, ask::EXPAND, 1, 1, -2147483648, 2147483647)?;
-    ask::show(rt, l, ask::LOOK, 1, 1, 2147483647, -2147483648)?;
-    Ok(())
-}
-
-// A request on the widest range at a progress of team 1.
-fn wide(
-    rt: &impl Print,
-    progress: i32,
-    kind: i32,
-    team: i32,
-    position: i32,
-    amount: i32,
-) -> io::Result<()> {
-    ask::show(
-        rt,
-        ask::rooted(2147483647, 7, progress, 1),
-        kind,
-        team,
-        1,
-        position,
-        amount,
-    )?;
+    let low = i32::MIN;
+    let high = i32::MAX;
+    let requests = [
+        Request {
+            position: low,
+            amount: low,
+            ..own(1, 1)
+        },
+        Request {
+            amount: low,
+            ..mark(2, 1, 0)
+        },
+        Request {
+            position: low,
+            amount: high,
+            ..expand(1, 1)
+        },
+        Request {
+            position: high,
+            amount: low,
+            ..look(1, 1)
+        },
+    ];
+    show_all(rt, opened(0, 2, 2, 3), &requests)?;
     Ok(())
 }
 
 // At 0, at until - 1 and at until - 2; a range of one sheet and an empty one; and team 32.
 fn ends(rt: &impl Print) -> io::Result<()> {
-    wide(rt, 0, ask::ADVANCE, 1, 0, 1)?;
-    wide(rt, 2147479551, ask::ADVANCE, 1, 2147479551, 4096)?;
-    wide(rt, 2147483646, ask::ADVANCE, 1, 2147483646, 4096)?;
-    wide(rt, 0, ask::MARK, 2, 0, 0)?;
-    wide(rt, 2147483645, ask::MARK, 2, 2147483645, 0)?;
-    wide(rt, 2147483646, ask::MARK, 2, 2147483646, 0)?;
-    wide(rt, -1, ask::EXPAND, 2, 0, 0)?;
-    wide(rt, -2147483646, ask::EXPAND, 2, 0, 0)?;
-    wide(rt, -2147483647, ask::EXPAND, 2, 0, 0)?;
-    wide(rt, -2147483646, ask::LOOK, 2, 0, 0)?;
-    ask::show(
-        rt,
-        ask::opened(2147483646, 2147483647, 1, 1),
-        ask::OWN,
-        1,
-        1,
-        0,
-        0,
-    )?;
-    ask::show(
-        rt,
-        ask::opened(2147483647, 2147483647, 1, 1),
-        ask::LOOK,
-        1,
-        1,
-        0,
-        0,
-    )?;
-    ask::show(rt, ask::opened(0, 5, 32, 7), ask::OWN, 32, 1, 0, 0)?;
+    for (progress, r) in [
+        (0, advance(1, 1, 0, 1)),
+        (2147479551, advance(1, 1, 2147479551, 4096)),
+        (2147483646, advance(1, 1, 2147483646, 4096)),
+        (0, mark(2, 1, 0)),
+        (2147483645, mark(2, 1, 2147483645)),
+        (2147483646, mark(2, 1, 2147483646)),
+        (-1, expand(2, 1)),
+        (-2147483646, expand(2, 1)),
+        (-2147483647, expand(2, 1)),
+        (-2147483646, look(2, 1)),
+    ] {
+        show(rt, rooted(i32::MAX, 7, progress, 1), r)?;
+    }
+    show(rt, opened(2147483646, 2147483647, 1, 1), own(1, 1))?;
+    show(rt, opened(2147483647, 2147483647, 1, 1), look(1, 1))?;
+    show(rt, opened(0, 5, 32, 7), own(32, 1))?;
     Ok(())
 }
 

@@ -1,39 +1,31 @@
 // The largest table: the widest range of 32 teams, split node after node until all 1,023 nodes are in use.
-use crate::ask;
-use rules::{Ledger, Request};
+use crate::ask::show_all;
+use rules::{Answered, Ledger};
+use shown::asks::{advance, expand, look, mark, own};
+use shown::tables::{after, opened};
 use std::io;
 
 // Team 1 owns the node, team 32 marks it where it begins, and splits it.
 fn parted(l: Ledger, n: i32) -> Ledger {
-    let owned = ledger::request(l, Request::new(ask::OWN, 1, n, 0, 0, 0, 0, 0));
-    let one = owned.ledger;
-    let a = owned.answer;
-    let two = ask::after(one, ask::MARK, 32, n, numbers::to_signed(a.from), 0);
-    ask::after(two, ask::EXPAND, 32, n, 0, 0)
-}
-
-// Splits the nodes 1 to 511.
-fn grown(first: Ledger) -> Ledger {
-    let mut l = first;
-    let mut n: u32 = 1;
-    while n <= 511 {
-        l = parted(l, numbers::to_signed(n));
-        n += 1;
-    }
-    l
+    let Answered { ledger, answer } = ledger::request(l, own(1, n));
+    let start = numbers::to_signed(answer.from);
+    after(ledger, &[mark(32, n, start), expand(32, n)])
 }
 
 pub(crate) fn all(rt: &impl Print) -> io::Result<()> {
-    let mut l = grown(ask::opened(0, 2147483647, 32, 1023));
-    l = ask::show(rt, l, ask::LOOK, 32, 1, 0, 0)?;
-    l = ask::show(rt, l, ask::LOOK, 1, 511, 0, 0)?;
-    l = ask::show(rt, l, ask::LOOK, 1, 512, 0, 0)?;
-    l = ask::show(rt, l, ask::LOOK, 1, 1023, 0, 0)?;
-    l = ask::show(rt, l, ask::LOOK, 1, 1024, 0, 0)?;
-    l = ask::show(rt, l, ask::OWN, 31, 1023, 0, 0)?;
-    l = ask::show(rt, l, ask::MARK, 32, 1023, 2143289343, 0)?;
-    l = ask::show(rt, l, ask::ADVANCE, 31, 1023, 2143289343, 4096)?;
-    l = ask::show(rt, l, ask::EXPAND, 1, 511, 0, 0)?;
-    ask::show(rt, l, ask::EXPAND, 1, 1023, 0, 0)?;
+    let l = (1..=511).fold(opened(0, i32::MAX, 32, 1023), parted);
+    let requests = [
+        look(32, 1),
+        look(1, 511),
+        look(1, 512),
+        look(1, 1023),
+        look(1, 1024),
+        own(31, 1023),
+        mark(32, 1023, 2143289343),
+        advance(31, 1023, 2143289343, 4096),
+        expand(1, 511),
+        expand(1, 1023),
+    ];
+    show_all(rt, l, &requests)?;
     Ok(())
 }

@@ -7,8 +7,8 @@ mod broken;
 mod grant;
 mod large;
 mod letter;
+mod lines;
 mod opening;
-mod print;
 mod refuse;
 mod table;
 

@@ -1,102 +1,110 @@
 // The table of moves, and what one node decides by itself.
-use crate::{ask, print};
-use rules::{Change, Node, Request, View};
-use std::io;
+use crate::lines::Plain;
+use nodes::moves::states_after;
+use rules::{Change, Kind, Node, Outcome, View};
+use shown::Shown;
+use shown::asks::expand;
+use shown::tables::node;
+use std::{fmt, io};
 
-// The states to which own, advance, mark, expand and look may lead from a state, as the sum of 2 to the power of each.
-fn row(rt: &impl Print, state: u32) -> io::Result<()> {
-    print::text(rt, "moves from")?;
-    print::number(rt, state)?;
-    print::text(rt, ":")?;
-    print::number(rt, nodes::moves::states_after(state, Request::OWN))?;
-    print::number(rt, nodes::moves::states_after(state, Request::ADVANCE))?;
-    print::number(rt, nodes::moves::states_after(state, Request::MARK))?;
-    print::number(rt, nodes::moves::states_after(state, Request::EXPAND))?;
-    print::number(rt, nodes::moves::states_after(state, Request::LOOK))?;
-    print::text(rt, "\n")
+// The states to which own, advance, mark, expand and look may lead from each state, as the sum of 2 to the power of each.
+fn rows(rt: &impl Print) -> io::Result<()> {
+    for state in 1..=5 {
+        println!(rt;
+            "moves from {state}: {} {} {} {} {}",
+            states_after(state, Kind::Own.number()),
+            states_after(state, Kind::Advance.number()),
+            states_after(state, Kind::Mark.number()),
+            states_after(state, Kind::Expand.number()),
+            states_after(state, Kind::Look.number())
+        )?;
+    }
+    Ok(())
 }
 
 // What is no state or no kind has no move.
 fn outside(rt: &impl Print) -> io::Result<()> {
-    print::text(rt, "no state, no kind:")?;
-    print::number(rt, nodes::moves::states_after(0, 1))?;
-    print::number(rt, nodes::moves::states_after(6, 1))?;
-    print::number(rt, nodes::moves::states_after(1, 0))?;
-    print::number(rt, nodes::moves::states_after(1, 6))?;
-    print::number(rt, nodes::moves::states_after(4294967295, 4294967295))?;
-    print::text(rt, "\n")
+    print!(rt; "no state, no kind:")?;
+    for (state, kind) in [(0, 1), (6, 1), (1, 0), (1, 6), (u32::MAX, u32::MAX)] {
+        print!(rt; " {}", states_after(state, kind))?;
+    }
+    println!(rt)
 }
 
-fn stored(rt: &impl Print, x: Node) -> io::Result<()> {
-    print::text(rt, " store")?;
-    print::node(rt, x)
-}
+// What a change makes of a node.
+#[derive(Clone, Copy)]
+struct Made(Node, Change);
 
-// What a change makes of the node x.
-fn change(rt: &impl Print, x: Node, c: Change) -> io::Result<()> {
-    match c {
-        Change::Keep => print::text(rt, " keep"),
-        Change::Own(team) => stored(rt, nodes::owned_by(x, team)),
-        Change::Advance(p) => stored(rt, nodes::advanced_to(x, p)),
-        Change::Mark(p) => stored(rt, nodes::marked_at(x, p)),
-        Change::Split(pair) => {
-            print::text(rt, " split")?;
-            print::node(rt, nodes::parted_at(x, pair))?;
-            print::number(rt, pair)?;
-            print::node(rt, nodes::left_part(x))?;
-            print::node(rt, nodes::right_part(x))
-        }
-        Change::Report(f) => stored(rt, nodes::reported_by(x, f)),
-        Change::Push => print::text(rt, " push"),
+impl fmt::Display for Made {
+    fn fmt<W: fmt::Write>(&self, f: &mut fmt::Formatter<W>) -> fmt::Result {
+        let Made(x, change) = *self;
+        let stored = match change {
+            Change::Keep => return f.write_str("keep"),
+            Change::Push => return f.write_str("push"),
+            Change::Split(pair) => return write!(f, "split {}", Pair(x, pair)),
+            Change::Own(team) => nodes::owned_by(x, team),
+            Change::Advance(p) => nodes::advanced_to(x, p),
+            Change::Mark(p) => nodes::marked_at(x, p),
+            Change::Report(finds) => nodes::reported_by(x, finds),
+        };
+        write!(f, "store {}", Plain(stored))
     }
 }
 
-// Expand, asked of one node in a table of so many nodes, with one STOLEN node.
-fn expand(rt: &impl Print, nodes: u32, used: u32, x: Node) -> io::Result<()> {
+// A node split into a pair of this number, that number, and the pair.
+#[derive(Clone, Copy)]
+struct Pair(Node, u32);
+
+impl fmt::Display for Pair {
+    fn fmt<W: fmt::Write>(&self, f: &mut fmt::Formatter<W>) -> fmt::Result {
+        let Pair(x, pair) = *self;
+        let parent = Plain(nodes::parted_at(x, pair));
+        let left = Plain(nodes::left_part(x));
+        let right = Plain(nodes::right_part(x));
+        write!(f, "{parent} {pair} {left} {right}")
+    }
+}
+
+// Expand, asked of one node in a table of so many nodes, three of them used, with one STOLEN node.
+fn show_expand(rt: &impl Print, room: u32, node: Node) -> io::Result<()> {
     let none = nodes::blank_node();
-    let v = View {
+    let view = View {
         teams: 2,
-        room: nodes,
-        used: used,
+        room,
+        used: 3,
         stolen: 1,
         pair: 4,
-        node: x,
+        node,
         left: none,
         right: none,
     };
-    let o = requests::decide(v, Request::new(ask::EXPAND, 2, 1, 0, 0, 0, 0, 0));
-    let a = o.answer;
-    let c = o.change;
-    print::text(rt, "expand with nodes")?;
-    print::number(rt, nodes)?;
-    print::text(rt, ", used")?;
-    print::number(rt, used)?;
-    print::text(rt, ",")?;
-    print::node(rt, x)?;
-    print::text(rt, ": answer")?;
-    print::answer(rt, a)?;
-    print::text(rt, ",")?;
-    change(rt, x, c)?;
-    print::text(rt, "\n")
+    let Outcome { answer, change } = requests::decide(view, expand(2, 1));
+    println!(rt;
+        "expand with nodes {room}, used 3, {}: answer {}, {}",
+        Plain(node),
+        Shown(answer),
+        Made(node, change)
+    )
 }
 
 // One node is asked by itself here, in tables too small as well: expand does not ask for room, since a well-formed ledger keeps two slots for
 // each STOLEN node. 15 comes before 16.
 fn expands(rt: &impl Print) -> io::Result<()> {
-    expand(rt, 3, 3, ask::node(0, 8, -4, 1, 0))?;
-    expand(rt, 4, 3, ask::node(0, 8, -4, 1, 0))?;
-    expand(rt, 5, 3, ask::node(0, 8, -4, 1, 0))?;
-    expand(rt, 4, 3, ask::node(0, 8, -4, 1, 2))?;
-    expand(rt, 4, 3, ask::node(0, 8, 3, 1, 0))?;
-    expand(rt, 4, 3, ask::node(0, 8, 3, 1, 2))
+    for (room, progress, left) in [
+        (3, -4, 0),
+        (4, -4, 0),
+        (5, -4, 0),
+        (4, -4, 2),
+        (4, 3, 0),
+        (4, 3, 2),
+    ] {
+        show_expand(rt, room, node(0, 8, progress, 1, left))?;
+    }
+    Ok(())
 }
 
 pub(crate) fn all(rt: &impl Print) -> io::Result<()> {
-    row(rt, 1)?;
-    row(rt, 2)?;
-    row(rt, 3)?;
-    row(rt, 4)?;
-    row(rt, 5)?;
+    rows(rt)?;
     outside(rt)?;
     expands(rt)
 }

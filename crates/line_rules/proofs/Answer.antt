@@ -8,9 +8,8 @@ use borrow.Author.Tests.{lt-ltb, le-ltb, ltb-true, ltb-false, ne_eqb}
 use lib.Dec.{ltb}
 use lib.ListN.{length, drop}
 use lib.Seq.{drop-append_seam}
-use Rattle.line_rules.specs.declared.Written.{Written}
 use Rattle.line_rules.specs.Line.{Part, word_of, parts_of, whole, any_negative}
-use Rattle.line_rules.specs.Written.{refusal, refused, granted, answer_to, at_start, area_after}
+use Rattle.line_rules.specs.Written.{Written, refusal, refused, granted, answer_to, at_start, area_after}
 use Rattle.line_rules.specs.Demands.{NegativeFirst, ShortSecond, BytesAfterStay}
 
 module _ (w : List ℕ) (ps : List Part) (room : ℕ) where

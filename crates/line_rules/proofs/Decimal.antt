@@ -3,7 +3,7 @@ use mathlib.Core.Path.{◌≡◌, refl, ap, ◌∙◌}
 use mathlib.Core.Bool.{Bool, true, false}
 use mathlib.Core.List.{List, [], ◌∷◌, ◌++◌}
 use mathlib.Core.Logic.{◌⊎◌, inl, inr, ⊎_elim}
-use Prim.Native.Nat.{ℕ, zero, suc, ◌+◌, ◌/◌, ◌%◌, ◌^◌, ◌≤◌, ◌<◌}
+use Prim.Native.Nat.{ℕ, zero, suc, ◌+◌, ◌/◌, ◌%◌, ◌*◌, ◌^◌, ◌≤◌, ◌<◌}
 use native.Mathlib.Nat.{div-lt_iff_lt-mul, pow-suc}
 use native.Mathlib.Omega.{arith}
 use borrow.Author.Tests.{lt-ltb, le-ltb, ltb-true, ltb-false}
@@ -52,7 +52,7 @@ decimal_more n h =
     digits_more n n h
     ∙ ap (λ (ds : List ℕ). ds ++ (digit (n % 10) ∷ [])) (enough n (suc (n / 10)) (n / 10) (omega arith) (omega arith))
 
-one_digit_lem : (n : ℕ) → (n < 10) ⊎ (10 ≤ n)
+pub one_digit_lem : (n : ℕ) → (n < 10) ⊎ (10 ≤ n)
 one_digit_lem n = by (ltb n 10) refl where
   by : (b : Bool) → ltb n 10 ≡ b → (n < 10) ⊎ (10 ≤ n)
   by true e = inl (ltb-true n 10 e)
@@ -87,3 +87,17 @@ decimal_shorter n h = rw (decimal_more n h, length-append)
 
 pub decimal_one : (n : ℕ) → n < 10 → length (decimal n) ≡ 1
 decimal_one n h = rw (decimal_last n h)
+
+power-some : (k : ℕ) → 1 ≤ 10 ^ k
+power-some zero = omega arith
+power-some (suc k) = rw pow-suc (omega (arith, power-some k))
+
+-- as many digits as the powers of ten say that the number lies between
+pub decimal_length : (k n : ℕ) → 10 ^ k ≤ n → n < 10 * 10 ^ k → length (decimal n) ≡ k + 1
+decimal_length zero n low high = decimal_one n (omega arith)
+decimal_length (suc k) n low high =
+    let low' : 10 ^ k * 10 ≤ n = rw pow-suc at low in
+    let high' : n < 10 * (10 ^ k * 10) = rw pow-suc at high in
+    let some = power-some k in
+    let rest = decimal_length k (n / 10) (omega arith) (omega arith) in
+    omega (arith, decimal_shorter n (omega arith))

@@ -1,14 +1,5 @@
-// What the line writer answers. The lines of the listing are the definitions of specs/, and what document 01 says of every line is a theorem of this crate.
+// How long the lines of the listing are. The lines are the definitions of specs/, and what document 01 says of every line is a theorem of this crate.
 #![tactic(auto)]
 
-// 0 and the line's length in bytes, or the code of a refusal and 0.
-#[derive(Clone, Copy)]
-pub struct Written {
-    pub code: u32,
-    pub length: usize,
-}
-
-impl Written {
-    // The bytes of the longest line that `sheets` prints, its line end among them.
-    pub const LONGEST: usize = 42;
-}
+// The bytes of the longest line that `sheets` prints, its line end among them.
+pub const LONGEST: usize = 42;

@@ -67,16 +67,6 @@ put_then {a} {b} {c} {s} {t} {at} p q h =
       bytes = q.bytes ∙ rw (p.place, p.bytes) (over_over a s t at h);
     }
 
--- one byte more of s is copied
-pub put_more : (area s now : List ℕ) (at i : ℕ) → Put area at (take i s) (at + i) now → at + length s ≤ length area → i < length s
-    → Put area at (take (i + 1) s) (at + (i + 1)) (set now (at + i) (get_or s i 0))
-put_more area s now at i p room more =
-    let n : length (take i s) ≡ i = length-take-le i s (omega arith) in
-    let h : at + length (take i s) ≤ length area = omega arith in
-    let l : length now ≡ length area = put-length p h in
-    let e : at + (i + 1) ≡ at + i + 1 = omega arith in
-    rw (e, add-one i, take-suc s i 0 more) (put_then p (put_one now (at + i) (get_or s i 0) (omega arith)) h)
-
 -- after a part there is room for k bytes more
 pub room_then : {a b s : List ℕ} {at next : ℕ} (k : ℕ) → Put a at s next b → at + (length s + k) ≤ length a → next + k ≤ length b
 room_then k p h = let l = put-length p (omega arith) in omega (arith, p.place)

@@ -1,5 +1,5 @@
 -- What is written into an area, and where.
-use Rattle.std.specs.Prelude.{ℕ, ◌+◌, ◌≡◌, cond, List, ◌++◌, leb, length, take, drop}
+use Rattle.std.specs.Prelude.{ℕ, ◌+◌, ◌≡◌, cond, List, ◌++◌, leb, length, take, drop, Option, None, Some}
 
 -- an area with the bytes s in it from `at` on
 unfoldable pub over : List ℕ → ℕ → List ℕ → List ℕ
@@ -17,3 +17,7 @@ added line at area = cond (leb (at + length line) (length area)) (over area at l
 -- the place after it, in an area of `room` bytes
 unfoldable pub added_to : List ℕ → ℕ → ℕ → ℕ
 added_to line at room = cond (leb (at + length line) room) (at + length line) at
+
+-- the place after it, where it has room, and else none
+unfoldable pub place_after : List ℕ → ℕ → ℕ → Option ℕ
+place_after line at room = cond (leb (at + length line) room) (Some (at + length line)) None

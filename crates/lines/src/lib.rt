@@ -1,30 +1,30 @@
 // The line writer: each line of the listing, with its line end, in an area that the caller lends.
 #![tactic(auto)]
 
-ghost use Rattle.std.specs.Prelude.{◌≡◌, cond, [], ◌∷◌, ◌+◌, ◌≤◌, ◌<◌, leb, eqb, pos, length};
+ghost use Rattle.std.specs.Prelude.{◌≡◌, false, true, cond, [], ◌∷◌, ◌+◌, ◌≤◌, ◌<◌, leb, pos, length, map, ◌++◌, MatchResult};
+ghost use Rattle.std.specs.List.{list_any};
+ghost use Rattle.rules.specs.declared.refusal.Refusal.TheVariants.{Negative};
 ghost use Rattle.numbers.specs.Fields.{nat_of};
+ghost use Rattle.numbers.specs.Progress.{negative};
 ghost use Rattle.line_rules.specs.Decimal.{decimal};
-ghost use Rattle.line_rules.specs.Line.{open_line, open_with_line, batch_line, split_line, left_line, refused_line, number, space, text, any_negative};
-ghost use Rattle.line_rules.specs.Written.{refused, granted, answer, after};
-ghost use Rattle.lines.specs.Area.{Put, added, added_to};
-ghost use Rattle.lines.specs.Fields.{field, widths, ending, end_stopped, end_left, Few};
+ghost use Rattle.line_rules.specs.Line.{open_line, open_with_line, batch_line, split_line, left_line, refused_line, number, text, whole};
+ghost use Rattle.line_rules.specs.Written.{answer, after, answer_to, area_after, told};
+ghost use Rattle.lines.specs.Area.{Put, added, added_to, place_after};
+ghost use Rattle.lines.specs.Fields.{fields, parts, Few};
 
-use line_rules::Written;
+use rules::Refusal;
 
-// The most bytes of a number after its space: the digits of a number of 64 bits, which is wider than those that a public call takes.
+// The most bytes of a number with the space before it: a number of 64 bits has 20 digits at most.
 const FIELD: usize = 21;
 
 // How many digits n has.
 fn width(n: u64) -> usize
     ensures { (result ≡ length (decimal n)) × (result ≤ 20) }
 {
-    let mut high = n;
-    let mut count: usize = 1;
-    while 10 <= high {
-        high /= 10;
-        count += 1;
+    match n.checked_ilog10() {
+        Some(k) => k as usize + 1,
+        None => 1,
     }
-    count
 }
 
 // Each put writes into the area from `at` on, and answers the place after what it wrote.
@@ -32,12 +32,9 @@ fn put(area: &mut [u8], at: usize, bytes: &[u8]) -> usize
     requires { at + length bytes.now ≤ length area.old }
     ensures { Put area.old at bytes.now result area.new }
 {
-    let mut i = 0;
-    while i < bytes.len() {
-        area[at + i] = bytes[i];
-        i += 1;
-    }
-    at + bytes.len()
+    let end = at + bytes.len();
+    area[at..end].copy_from_slice(bytes);
+    end
 }
 
 fn put_byte(area: &mut [u8], at: usize, byte: u8) -> usize
@@ -54,120 +51,48 @@ fn put_number(area: &mut [u8], at: usize, n: u64) -> usize
     ensures { Put area.old at (decimal n) result area.new }
 {
     let end = at + width(n);
-    let mut last = end - 1;
     let mut high = n;
-    while 10 <= high {
-        area[last] = b'0' + (high % 10) as u8;
+    for place in (at..end).rev() {
+        area[place] = b'0' + (high % 10) as u8;
         high /= 10;
-        last -= 1;
     }
-    area[last] = b'0' + high as u8;
     end
 }
 
-// A number after its space.
-fn put_field(area: &mut [u8], at: usize, n: u64) -> usize
-    requires { at + length (field n) ≤ length area.old }
-    ensures { Put area.old at (field n) result area.new }
+// The numbers, each after its space.
+fn put_fields(area: &mut [u8], at: usize, numbers: &[u64]) -> usize
+    requires { at + length (fields numbers.now) ≤ length area.old }
+    ensures { Put area.old at (fields numbers.now) result area.new }
 {
-    let next = put_byte(area, at, b' ');
-    put_number(area, next, n)
+    let mut next = at;
+    for &n in numbers {
+        next = put_byte(area, next, b' ');
+        next = put_number(area, next, n);
+    }
+    next
 }
 
-// The last numbers of a line, and its line end: one, two, three, four, five or six. They are not taken from an array, which would cost as much
-// as their digits do.
-fn end_one(area: &mut [u8], at: usize, a: u64) -> usize
-    requires { at + length (ending (a ∷ [])) ≤ length area.old }
-    ensures { Put area.old at (ending (a ∷ [])) result area.new }
+// A word and the numbers after it.
+fn put_run(area: &mut [u8], at: usize, word: &[u8], numbers: &[u64]) -> usize
+    requires { at + length (word.now ++ fields numbers.now) ≤ length area.old }
+    ensures { Put area.old at (word.now ++ fields numbers.now) result area.new }
 {
-    let next = put_field(area, at, a);
-    put_byte(area, next, b'\n')
-}
-
-fn end_two(area: &mut [u8], at: usize, a: u64, b: u64) -> usize
-    requires { at + length (ending (a ∷ b ∷ [])) ≤ length area.old }
-    ensures { Put area.old at (ending (a ∷ b ∷ [])) result area.new }
-{
-    let next = put_field(area, at, a);
-    end_one(area, next, b)
-}
-
-fn end_three(area: &mut [u8], at: usize, a: u64, b: u64, c: u64) -> usize
-    requires { at + length (ending (a ∷ b ∷ c ∷ [])) ≤ length area.old }
-    ensures { Put area.old at (ending (a ∷ b ∷ c ∷ [])) result area.new }
-{
-    let next = put_field(area, at, a);
-    end_two(area, next, b, c)
-}
-
-fn end_four(area: &mut [u8], at: usize, a: u64, b: u64, c: u64, d: u64) -> usize
-    requires { at + length (ending (a ∷ b ∷ c ∷ d ∷ [])) ≤ length area.old }
-    ensures { Put area.old at (ending (a ∷ b ∷ c ∷ d ∷ [])) result area.new }
-{
-    let next = put_field(area, at, a);
-    end_three(area, next, b, c, d)
-}
-
-fn end_five(area: &mut [u8], at: usize, a: u64, b: u64, c: u64, d: u64, e: u64) -> usize
-    requires { at + length (ending (a ∷ b ∷ c ∷ d ∷ e ∷ [])) ≤ length area.old }
-    ensures { Put area.old at (ending (a ∷ b ∷ c ∷ d ∷ e ∷ [])) result area.new }
-{
-    let next = put_field(area, at, a);
-    end_four(area, next, b, c, d, e)
-}
-
-fn end_six(area: &mut [u8], at: usize, a: u64, b: u64, c: u64, d: u64, e: u64, f: u64) -> usize
-    requires { at + length (ending (a ∷ b ∷ c ∷ d ∷ e ∷ f ∷ [])) ≤ length area.old }
-    ensures { Put area.old at (ending (a ∷ b ∷ c ∷ d ∷ e ∷ f ∷ [])) result area.new }
-{
-    let next = put_field(area, at, a);
-    end_five(area, next, b, c, d, e, f)
-}
-
-// The word inside a line, after its space.
-fn put_inside(area: &mut [u8], at: usize, word: &[u8]) -> usize
-    requires { at + length (space ∷ word.now) ≤ length area.old }
-    ensures { Put area.old at (space ∷ word.now) result area.new }
-{
-    let next = put_byte(area, at, b' ');
-    put(area, next, word)
-}
-
-// What the left line has after its first word, and what it has after its first number.
-fn end_stopped(area: &mut [u8], at: usize, stopped: u64) -> usize
-    requires { at + length (end_stopped stopped) ≤ length area.old }
-    ensures { Put area.old at (end_stopped stopped) result area.new }
-{
-    let next = put_inside(area, at, b"stopped");
-    end_one(area, next, stopped)
-}
-
-fn end_left(area: &mut [u8], at: usize, count: u64, stopped: u64) -> usize
-    requires { at + length (end_left count stopped) ≤ length area.old }
-    ensures { Put area.old at (end_left count stopped) result area.new }
-{
-    let next = put_field(area, at, count);
-    end_stopped(area, next, stopped)
+    let next = put(area, at, word);
+    put_fields(area, next, numbers)
 }
 
 fn fields_width(numbers: &[u64]) -> usize
     requires { length numbers.now ≤ 8 }
-    ensures { (result ≡ widths numbers.now) × (result ≤ 168) }
+    ensures { (result ≡ length (fields numbers.now)) × (result ≤ 168) }
 {
-    let mut sum = 0;
-    let mut i = 0;
-    while i < numbers.len() {
-        sum += 1 + width(numbers[i]);
-        i += 1;
-    }
-    sum
+    numbers.iter().map(|&n| 1 + width(n)).sum()
 }
 
 // Whether so many bytes of words and these numbers have room after the first `at` bytes of an area. They are measured only where the
 // longest numbers would have none.
 fn fits(room: usize, at: usize, words: usize, numbers: &[u64]) -> bool
     requires { Few words numbers.now }
-    ensures { result ≡ leb (at + (words + widths numbers.now)) room }
+    ensures { result ≡ leb (at + (words + length (fields numbers.now))) room }
 {
     if room < at {
         return false;
@@ -179,8 +104,22 @@ fn fits(room: usize, at: usize, words: usize, numbers: &[u64]) -> bool
     words + fields_width(numbers) <= left
 }
 
+// A line that is a word and numbers, after the first `at` bytes of an area, and the place after it. Where it has no room nothing is put.
+fn add(area: &mut [u8], at: usize, word: &[u8], numbers: &[u64]) -> Option<usize>
+    requires { Few (length word.now + 1) numbers.now }
+    ensures value { result ≡ place_after (whole word.now (parts numbers.now)) at (length area.old) }
+    ensures area_after { area.new ≡ added (whole word.now (parts numbers.now)) at area.old }
+{
+    if !fits(area.len(), at, word.len() + 1, numbers) {
+        return None;
+    }
+    let next = put_run(area, at, word, numbers);
+    Some(put_byte(area, next, b'\n'))
+}
+
 // A line after the first `at` bytes of an area, where it has room, and else nothing; the place after it. Each of these is total, and no
 // number that it is given is negative: it is for callers that know both.
+#[tactic(auto, using(crate::proofs::Added::or_before))]
 pub fn add_open(
     area: &mut [u8],
     at: usize,
@@ -193,15 +132,11 @@ pub fn add_open(
     ensures value { result ≡ added_to (text (open_line (pos start) (pos until) (pos teams) (pos cap) (pos nodes))) at (length area.old) }
     ensures area_after { area.new ≡ added (text (open_line (pos start) (pos until) (pos teams) (pos cap) (pos nodes))) at area.old }
 {
-    if fits(area.len(), at, 5, &[start, until, teams, cap, nodes]) {
-        let next = put(area, at, b"open");
-        end_five(area, next, start, until, teams, cap, nodes)
-    } else {
-        at
-    }
+    add(area, at, b"open", &[start, until, teams, cap, nodes]).unwrap_or(at)
 }
 
 // The open line of a header that names a program.
+#[tactic(auto, using(crate::proofs::Added::or_before))]
 pub fn add_open_with(
     area: &mut [u8],
     at: usize,
@@ -215,102 +150,84 @@ pub fn add_open_with(
     ensures value { result ≡ added_to (text (open_with_line (pos start) (pos until) (pos teams) (pos cap) (pos nodes) (pos program))) at (length area.old) }
     ensures area_after { area.new ≡ added (text (open_with_line (pos start) (pos until) (pos teams) (pos cap) (pos nodes) (pos program))) at area.old }
 {
-    if fits(
-        area.len(),
+    add(
+        area,
         at,
-        5,
+        b"open",
         &[start, until, teams, cap, nodes, program],
-    ) {
-        let next = put(area, at, b"open");
-        end_six(area, next, start, until, teams, cap, nodes, program)
-    } else {
-        at
-    }
+    )
+    .unwrap_or(at)
 }
 
+#[tactic(auto, using(crate::proofs::Added::or_before))]
 pub fn add_batch(area: &mut [u8], at: usize, team: u64, node: u64, from: u64, to: u64) -> usize
     ensures value { result ≡ added_to (text (batch_line (pos team) (pos node) (pos from) (pos to))) at (length area.old) }
     ensures area_after { area.new ≡ added (text (batch_line (pos team) (pos node) (pos from) (pos to))) at area.old }
 {
-    if fits(area.len(), at, 6, &[team, node, from, to]) {
-        let next = put(area, at, b"batch");
-        end_four(area, next, team, node, from, to)
-    } else {
-        at
-    }
+    add(area, at, b"batch", &[team, node, from, to]).unwrap_or(at)
 }
 
+#[tactic(auto, using(crate::proofs::Added::or_before))]
 pub fn add_split(area: &mut [u8], at: usize, node: u64, left: u64, middle: u64) -> usize
     ensures value { result ≡ added_to (text (split_line (pos node) (pos left) (pos middle))) at (length area.old) }
     ensures area_after { area.new ≡ added (text (split_line (pos node) (pos left) (pos middle))) at area.old }
 {
-    if fits(area.len(), at, 6, &[node, left, middle]) {
-        let next = put(area, at, b"split");
-        end_three(area, next, node, left, middle)
-    } else {
-        at
-    }
+    add(area, at, b"split", &[node, left, middle]).unwrap_or(at)
 }
 
+// The one line that has a word inside it, by `add`'s rule.
+fn left(area: &mut [u8], at: usize, count: u64, stopped: u64) -> Option<usize>
+    ensures value { result ≡ place_after (text (left_line (pos count) (pos stopped))) at (length area.old) }
+    ensures area_after { area.new ≡ added (text (left_line (pos count) (pos stopped))) at area.old }
+{
+    if !fits(area.len(), at, b"left stopped\n".len(), &[count, stopped]) {
+        return None;
+    }
+    let next = put_run(area, at, b"left", &[count]);
+    let next = put_run(area, next, b" stopped", &[stopped]);
+    Some(put_byte(area, next, b'\n'))
+}
+
+#[tactic(auto, using(crate::proofs::Added::or_before))]
 pub fn add_left(area: &mut [u8], at: usize, count: u64, stopped: u64) -> usize
     ensures value { result ≡ added_to (text (left_line (pos count) (pos stopped))) at (length area.old) }
     ensures area_after { area.new ≡ added (text (left_line (pos count) (pos stopped))) at area.old }
 {
-    if fits(area.len(), at, 13, &[count, stopped]) {
-        let next = put(area, at, b"left");
-        end_left(area, next, count, stopped)
-    } else {
-        at
-    }
+    left(area, at, count, stopped).unwrap_or(at)
 }
 
+#[tactic(auto, using(crate::proofs::Added::or_before))]
 pub fn add_refused(area: &mut [u8], at: usize, code: u64, line: u64) -> usize
     ensures value { result ≡ added_to (text (refused_line (pos code) (pos line))) at (length area.old) }
     ensures area_after { area.new ≡ added (text (refused_line (pos code) (pos line))) at area.old }
 {
-    if fits(area.len(), at, 8, &[code, line]) {
-        let next = put(area, at, b"refused");
-        end_two(area, next, code, line)
-    } else {
-        at
-    }
+    add(area, at, b"refused", &[code, line]).unwrap_or(at)
 }
 
-fn any_negative(a: i32, b: i32, c: i32, d: i32, e: i32) -> bool
-    ensures { result ≡ any_negative (number a ∷ number b ∷ number c ∷ number d ∷ number e ∷ []) }
+// The numbers as a line has them, where none is negative.
+fn natural<const N: usize>(numbers: &[i32; N]) -> Result<[u64; N], Refusal>
+    ensures { MatchResult result
+        (λ ns. (list_any negative numbers.now ≡ false) × (ns ≡ map nat_of numbers.now))
+        (λ e. (list_any negative numbers.now ≡ true) × (e ≡ Negative)) }
 {
-    let last = numbers::is_negative(d) | (numbers::is_negative(e) | false);
-    numbers::is_negative(a) | (numbers::is_negative(b) | (numbers::is_negative(c) | last))
-}
-
-// A number that is not negative, as wide as those of a line.
-fn wide(n: i32) -> u64
-    ensures { result ≡ nat_of n }
-{
-    numbers::natural(n) as u64
-}
-
-fn refuse(code: u32) -> Written
-    ensures { result ≡ refused code }
-{
-    Written {
-        code: code,
-        length: 0,
-    }
-}
-
-// The answer, by the place after a line at the start of an area: no line is empty, so that at 0 none was written.
-fn ended(end: usize) -> Written
-    ensures { result ≡ cond (eqb end 0) (refused 28) (granted end) }
-{
-    if end == 0 {
-        refuse(28)
-    } else {
-        Written {
-            code: 0,
-            length: end,
+    let mut natural = [0; N];
+    for (i, &n) in numbers.iter().enumerate() {
+        if numbers::is_negative(n) {
+            return Err(Refusal::Negative);
         }
+        natural[i] = u64::from(numbers::natural(n));
     }
+    Ok(natural)
+}
+
+// A line that is a word and numbers at the start of an area.
+fn write<const N: usize>(area: &mut [u8], word: &[u8], numbers: &[i32; N]) -> Result<usize, Refusal>
+    requires { Few (length word.now + 1) numbers.now }
+    ensures value { told result ≡ answer_to word.now (map number numbers.now) (length area.old) }
+    ensures area_after { area.new ≡ area_after word.now (map number numbers.now) area.old }
+{
+    let numbers = natural(numbers)?;
+    add(area, 0, word, &numbers).ok_or(Refusal::ShortLine)
 }
 
 // A line at the start of an area.
@@ -321,22 +238,11 @@ pub fn open_line(
     teams: i32,
     cap: i32,
     nodes: i32,
-) -> Written
-    ensures value { result ≡ answer (open_line start until teams cap nodes) (length area.old) }
+) -> Result<usize, Refusal>
+    ensures value { told result ≡ answer (open_line start until teams cap nodes) (length area.old) }
     ensures area_after { area.new ≡ after (open_line start until teams cap nodes) area.old }
 {
-    if any_negative(start, until, teams, cap, nodes) {
-        return refuse(25);
-    }
-    ended(add_open(
-        area,
-        0,
-        wide(start),
-        wide(until),
-        wide(teams),
-        wide(cap),
-        wide(nodes),
-    ))
+    write(area, b"open", &[start, until, teams, cap, nodes])
 }
 
 pub fn open_with_line(
@@ -347,61 +253,44 @@ pub fn open_with_line(
     cap: i32,
     nodes: i32,
     program: i32,
-) -> Written
-    ensures value { result ≡ answer (open_with_line start until teams cap nodes program) (length area.old) }
+) -> Result<usize, Refusal>
+    ensures value { told result ≡ answer (open_with_line start until teams cap nodes program) (length area.old) }
     ensures area_after { area.new ≡ after (open_with_line start until teams cap nodes program) area.old }
 {
-    if numbers::is_negative(start) | any_negative(until, teams, cap, nodes, program) {
-        return refuse(25);
-    }
-    ended(add_open_with(
-        area,
-        0,
-        wide(start),
-        wide(until),
-        wide(teams),
-        wide(cap),
-        wide(nodes),
-        wide(program),
-    ))
+    write(area, b"open", &[start, until, teams, cap, nodes, program])
 }
 
-pub fn batch_line(area: &mut [u8], team: i32, node: i32, from: i32, to: i32) -> Written
-    ensures value { result ≡ answer (batch_line team node from to) (length area.old) }
+pub fn batch_line(
+    area: &mut [u8],
+    team: i32,
+    node: i32,
+    from: i32,
+    to: i32,
+) -> Result<usize, Refusal>
+    ensures value { told result ≡ answer (batch_line team node from to) (length area.old) }
     ensures area_after { area.new ≡ after (batch_line team node from to) area.old }
 {
-    if any_negative(team, node, from, to, 0) {
-        return refuse(25);
-    }
-    ended(add_batch(area, 0, wide(team), wide(node), wide(from), wide(to)))
+    write(area, b"batch", &[team, node, from, to])
 }
 
-pub fn split_line(area: &mut [u8], node: i32, left: i32, middle: i32) -> Written
-    ensures value { result ≡ answer (split_line node left middle) (length area.old) }
+pub fn split_line(area: &mut [u8], node: i32, left: i32, middle: i32) -> Result<usize, Refusal>
+    ensures value { told result ≡ answer (split_line node left middle) (length area.old) }
     ensures area_after { area.new ≡ after (split_line node left middle) area.old }
 {
-    if any_negative(node, left, middle, 0, 0) {
-        return refuse(25);
-    }
-    ended(add_split(area, 0, wide(node), wide(left), wide(middle)))
+    write(area, b"split", &[node, left, middle])
 }
 
-pub fn left_line(area: &mut [u8], count: i32, stopped: i32) -> Written
-    ensures value { result ≡ answer (left_line count stopped) (length area.old) }
+pub fn left_line(area: &mut [u8], count: i32, stopped: i32) -> Result<usize, Refusal>
+    ensures value { told result ≡ answer (left_line count stopped) (length area.old) }
     ensures area_after { area.new ≡ after (left_line count stopped) area.old }
 {
-    if any_negative(count, stopped, 0, 0, 0) {
-        return refuse(25);
-    }
-    ended(add_left(area, 0, wide(count), wide(stopped)))
+    let [count, stopped] = natural(&[count, stopped])?;
+    left(area, 0, count, stopped).ok_or(Refusal::ShortLine)
 }
 
-pub fn refused_line(area: &mut [u8], code: i32, line: i32) -> Written
-    ensures value { result ≡ answer (refused_line code line) (length area.old) }
+pub fn refused_line(area: &mut [u8], code: i32, line: i32) -> Result<usize, Refusal>
+    ensures value { told result ≡ answer (refused_line code line) (length area.old) }
     ensures area_after { area.new ≡ after (refused_line code line) area.old }
 {
-    if any_negative(code, line, 0, 0, 0) {
-        return refuse(25);
-    }
-    ended(add_refused(area, 0, wide(code), wide(line)))
+    write(area, b"refused", &[code, line])
 }

@@ -14,15 +14,17 @@ use Rattle.rules.specs.declared.View.{View}
 use Rattle.rules.specs.Limits.{max_teams, max_nodes}
 use Rattle.rules.specs.Nodes.{blank}
 use Rattle.rules.specs.Opening.{opening}
+use Rattle.rules.specs.Requests.{changed}
 use Rattle.rules.specs.Table.{next_pair, stolen_in}
 use Rattle.rules.specs.WellFormed.{well_formed}
 use Rattle.rules.proofs.Record.{rules_back}
 use Rattle.steps.specs.declared.Team.{Team}
 use Rattle.steps.specs.declared.Turned.{Turned}
 use Rattle.steps.specs.Records.{program_of, fresh_team, no_team, is_stopped}
-use Rattle.steps.specs.Step.{slot_of, record_of}
+use Rattle.steps.specs.Step.{slot_of}
 use Rattle.steps.specs.Run.{Run, run_steps}
 use Rattle.teams.specs.Clipped.{clipped_turn}
+use Rattle.ledger.specs.Slots.{Stores}
 use Rattle.ledger.specs.Table.{slot_for, node_for, view_by}
 use Rattle.line_rules.specs.Line.{text}
 use Rattle.lines.specs.Area.{Put}
@@ -31,8 +33,8 @@ use Rattle.listing_rules.specs.Steps.{run_with, run_from, note_of, head_line, la
 use Rattle.listing_rules.specs.Listing.{bytes_of}
 use Rattle.listing_rules.specs.Lent.{room_for}
 use Rattle.listing_rules.proofs.Runs.{Begun, Here, here}
-use Rattle.listing.specs.Table.{Runnable}
-use Rattle.listing.proofs.Stepping.{begun_with, none_stolen, seat_inside, taken, taken_is, Arms, arms, rests}
+use Rattle.listing.specs.Table.{Runnable, stolen_after}
+use Rattle.listing.proofs.Stepping.{begun_with, none_stolen, seat_inside, taken, taken_is, Made, made, rests}
 use Rattle.listing.proofs.Writing.{head_room, note_room, note_put, last_room, last_put}
 use Rattle.std.specs.Prelude.{replicate}
 
@@ -181,21 +183,24 @@ module _ {s : List ℤ} {count : ℕ} {o : Opening} {program : ℕ} {area : List
       room_for_note =
           note_room z.begun s count z.runnable.inside z.runnable.teams area z.room a.before.put i more l rs a.run k t ek turns a.lines
 
-      -- what the arms of the match store
-      pub stores : Arms cap u (take (i + 1) s) l (set rs slot t.team) place stolen t.change
-      stores = arms z.begun s i less l rs a.run mine slot place stolen t es ep a.count_is turns
+      -- what the change makes
+      makes : Made cap u (take (i + 1) s) l (set rs slot t.team) (get_or rs slot no_team).node stolen t.change
+      makes = made z.begun s i less l rs a.run mine slot stolen t es a.count_is turns
 
-      -- the line is written and an arm's stores are made
-      pub steps_on : {last more_stolen : ℕ} {done : List ℕ} {next : Ledger} {later : List Team}
+      pub storable : Stores l (get_or rs slot no_team).node t.change
+      storable = makes.inside
+
+      -- the line is written and the change is stored
+      pub steps_on : {last more_stolen : ℕ} {done : List ℕ} {next : Ledger}
           → Put out end (bytes_of (note_of (pos k) t.kind t.node t.answer)) last done
           → length done ≡ length out
-          → more_stolen ≡ stolen_in next
-          → run_with next later ≡ run_from (pos cap) u (take (i + 1) s)
-          → Kept s count cap u first headed (i + 1) more_stolen last next later done
-      steps_on q same count_is run = (
+          → more_stolen ≡ stolen_after stolen t.change
+          → next ≡ changed l (get_or rs slot no_team).node t.change
+          → Kept s count cap u first headed (i + 1) more_stolen last next (set rs slot t.team) done
+      steps_on q same en el = (
         omega (arith, more),
         same ∙ a.same,
-        count_is,
-        run,
+        rw (en, el) makes.goes.count,
+        rw el makes.goes.run,
         note_put z.begun s count z.runnable.inside z.runnable.teams area z.room a.before.put i more l rs a.run k t ek turns a.lines q,
       )

@@ -2,7 +2,7 @@
 use mathlib.Core.Path.{◌≡◌, refl, sym, ap, ◌∙◌}
 use mathlib.Core.Bool.{Bool, true, false, cond}
 use mathlib.Core.List.{List, [], ◌∷◌, ◌++◌, append_assoc, append-nil}
-use Prim.Native.Nat.{ℕ, ◌+◌, ◌-◌, ◌≤◌, ◌<◌}
+use Prim.Native.Nat.{ℕ, ◌+◌, ◌≤◌, ◌<◌}
 use native.Mathlib.Omega.{arith}
 use native.Mathlib.Decide.{dec_le}
 use lib.IntN.{ℤ, pos}
@@ -17,9 +17,8 @@ use Rattle.rules.specs.declared.Opening.{Opening}
 use Rattle.rules.specs.declared.Opened.{Opened}
 use Rattle.rules.specs.declared.View.{View}
 use Rattle.rules.specs.declared.Change.{Change}
-use Rattle.rules.specs.declared.Change.TheVariants.{Keep, Own, Advance, Mark, Split}
-use Rattle.rules.specs.Limits.{opens, max_cap, max_teams, max_nodes, max_program}
-use Rattle.rules.specs.Nodes.{blank, owned, parted, left_part}
+use Rattle.rules.specs.Limits.{opens, max_cap, max_teams, max_program}
+use Rattle.rules.specs.Nodes.{blank}
 use Rattle.rules.specs.States.{stolen_of}
 use Rattle.rules.specs.Requests.{view, alone, changed}
 use Rattle.rules.specs.Table.{at, next_pair, stolen_in}
@@ -43,9 +42,12 @@ use Rattle.places.specs.Clipped.{Limited}
 use Rattle.teams.specs.Clipped.{clipped_turn, Ready}
 use Rattle.teams.proofs.Laws.{in_limits, unclipped_turn}
 use Rattle.listing_rules.specs.Steps.{run_with, run_from, step_line, note_of, notes}
-use Rattle.nodes.specs.Makers.{held_advanced, held_marked, held_right}
 use Rattle.ledger.specs.Table.{slot_for, node_for, view_by}
-use Rattle.ledger.proofs.Storing.{node_is, view-is, with_nodes, Next, kept, owned_in, advanced_in, marked_in, split_room, split_in}
+use Rattle.listing.specs.Table.{stolen_after}
+use Rattle.ledger.specs.Slots.{Stores}
+use Rattle.ledger.proofs.Reading.{node_is, view-is}
+use Rattle.ledger.proofs.Slots.{in_limits as stores_in}
+use Rattle.listing.proofs.Counting.{counts}
 use Rattle.listing_rules.proofs.Runs.{Begun, Here, here}
 
 -- the limits that a step's code counts on
@@ -137,17 +139,10 @@ pub record Goes (cap : ℕ) (u : Run) (s : List ℤ) (next : Ledger) (rs : List 
   pub count : k ≡ stolen_in next
   pub run : run_with next rs ≡ run_from (pos cap) u s
 
--- what the code stores, by the arms of its match
-pub record Arms (cap : ℕ) (u : Run) (s : List ℤ) (l : Ledger) (rs : List Team) (place stolen : ℕ) (c : Change) : Type 0 where
-  pub keep : c ≡ Keep → Goes cap u s l rs stolen
-  pub own : (team : ℕ) → c ≡ Own team → Goes cap u s (with_nodes l l.used (set l.nodes place (owned (get_or l.nodes place blank) team))) rs stolen
-  pub advance : (p : ℕ) → c ≡ Advance p → Goes cap u s (with_nodes l l.used (set l.nodes place (held_advanced (get_or l.nodes place blank) p))) rs stolen
-  pub mark : (p : ℕ) → c ≡ Mark p → Goes cap u s (with_nodes l l.used (set l.nodes place (held_marked (get_or l.nodes place blank) p))) rs (stolen + 1)
-  pub pair : (p : ℕ) → c ≡ Split p → (1 ≤ p) × (p + 1 ≤ max_nodes)
-  pub split : (p : ℕ) → c ≡ Split p
-      → Goes cap u s (with_nodes l (p + 1) (set (set (set l.nodes place (parted (get_or l.nodes place blank) p)) (p - 1) (left_part (get_or l.nodes place blank))) (p - 1 + 1) (held_right (get_or l.nodes place blank)))) rs (stolen - 1)
-  -- no step reports or pushes
-  pub moving : Moving c
+-- what the change of node n makes is that, and it is stored within the table
+pub record Made (cap : ℕ) (u : Run) (s : List ℤ) (l : Ledger) (rs : List Team) (n stolen : ℕ) (c : Change) : Type 0 where
+  pub goes : Goes cap u s (changed l n c) rs (stolen_after stolen c)
+  pub inside : Stores l n c
 
 module _ {o : Opening} {program cap : ℕ} {u : Run} (b : Begun o program cap u) (s : List ℤ) (i : ℕ) (less : i < length s) (l : Ledger) (rs : List Team)
     (inv : run_with l rs ≡ run_from (pos cap) u (take i s)) (mine : within (get_or s i (pos 0)) 1 (nat_of o.teams) ≡ true) where
@@ -205,44 +200,16 @@ module _ {o : Opening} {program cap : ℕ} {u : Run} (b : Begun o program cap u)
       rw (ek, es, seen) (ready l w (nat_of number) r cap (stand.fits number mine) (omega (arith, h.high, stand.teams_are)) stand.small) in
       et ∙ unclipped_turn _ _ _ _ good ∙ rw (ek, es, seen) (turn_alone (nat_of number) cap (record_of rs number) (view l (record_of rs number).node))
 
-  pub arms : (slot place stolen : ℕ) (t : Turned)
-      → slot ≡ slot_of number
-      → place ≡ slot_for (get_or rs slot no_team).node
-      → stolen ≡ stolen_in l
-      → t ≡ taken
-      → Arms cap u (take (i + 1) s) l (set rs slot t.team) place stolen t.change
-  arms slot place stolen t es ep ec et =
-      record {
-        keep = λ e. goes e (rw ec (kept l w n (by_turn e)));
-        own = λ team e. goes e (rw (at_place, ec) (owned_in l w n team (by_turn e)));
-        advance = λ p e. goes e (rw (at_place, ec) (advanced_in l w n p (by_turn e)));
-        mark = λ p e. goes e (rw (at_place, ec) (marked_in l w n p (by_turn e)));
-        pair = λ p e. split_room l w n p (by_turn e);
-        split = λ p e. goes e (rw (at_place, ec) (split_in l w n p (by_turn e)));
-        moving = rw et (turn_moves (nat_of number) cap (record_of rs number) (view l n));
-      }
-    where
-      w : WF l
-      w = stand.wf
-
-      n : ℕ
-      n = (record_of rs number).node
-
-      at_place : place ≡ slot_for n
-      at_place = rw es at ep
-
-      by_turn : {c : Change} → t.change ≡ c → Changes l (record_of rs number).node c
-      by_turn e = rw (← e, et) (turn_changes (nat_of number) cap l (record_of rs number))
-
-      goes : {used k : ℕ} {ns : List Node} {c : Change}
-          → t.change ≡ c
-          → Next l used ns k (changed l (record_of rs number).node c)
-          → Goes cap u (take (i + 1) s) (with_nodes l used ns) (set rs slot t.team) k
-      goes e f =
-          record {
-            count = f.count_is ∙ ap stolen_in (sym f.is);
-            run = ap (λ (m : Ledger). run_with m (set rs slot t.team)) f.is ∙ rw (← e, es, et) next_run;
-          }
+  pub made : (slot stolen : ℕ) (t : Turned) → slot ≡ slot_of number → stolen ≡ stolen_in l → t ≡ taken
+      → Made cap u (take (i + 1) s) l (set rs slot t.team) (get_or rs slot no_team).node stolen t.change
+  made slot stolen t es ec et =
+      let r : Team = record_of rs number in
+      let c : Changes l r.node taken.change = turn_changes (nat_of number) cap l r in
+      -- no step reports or pushes
+      let moving : Moving taken.change = turn_moves (nat_of number) cap r (view l r.node) in
+      rw
+      (et, es, ec)
+      (record { goes = record { count = counts l stand.wf r.node c moving; run = next_run }; inside = stores_in l stand.wf r.node c })
 
 -- ---- before the loop
 

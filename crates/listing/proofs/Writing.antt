@@ -1,7 +1,7 @@
 -- What a run writes: its lines so far stand at the front of the area, and the next one has room.
 use mathlib.Core.Path.{◌≡◌, refl, sym, ap, ◌∙◌}
 use mathlib.Core.Logic.{◌≢◌}
-use mathlib.Core.Bool.{Bool, true, false, cond}
+use mathlib.Core.Bool.{Bool, true, false, false≢true, ◌&&◌, cond}
 use mathlib.Core.List.{List, [], ◌∷◌, ◌++◌}
 use Prim.Native.Nat.{ℕ, ◌+◌, ◌*◌, ◌≤◌, ◌<◌}
 use native.Mathlib.Omega.{arith}
@@ -9,6 +9,7 @@ use lib.IntN.{ℤ, pos}
 use lib.ListN.{length, get_or, take, length-append}
 use lib.Seq.{length-take-le, get_or-take}
 use borrow.Author.Tests.{ne_eqb}
+use lib.Dec.{eqb}
 use Rattle.numbers.specs.Fields.{nat_of, within}
 use Rattle.numbers.proofs.Laws.{within_true}
 use Rattle.rules.specs.declared.Answer.{Answer}
@@ -20,10 +21,13 @@ use Rattle.steps.specs.declared.Team.{Team}
 use Rattle.steps.specs.declared.Turned.{Turned}
 use Rattle.steps.specs.Run.{Run}
 use Rattle.line_rules.specs.Line.{Line, open_line, open_with_line, batch_line, split_line, text, spaced, whole}
+use Rattle.std.specs.Prelude.{Option, None, Some}
+use Rattle.text_rules.specs.Judgement.{is_program, may_name}
+use Rattle.text_rules.specs.Answers.{told_program}
 use Rattle.line_rules.specs.Longest.{max_line}
 use Rattle.lines.specs.Area.{Put}
 use Rattle.lines.proofs.Area.{put_then, put-length}
-use Rattle.listing_rules.specs.Steps.{grants, run_with, run_from, note_of, is_named, open_by, head_line, notes, last_line, run_lines}
+use Rattle.listing_rules.specs.Steps.{run_with, run_from, note_of, is_named, open_by, head_line, notes, last_line, run_lines}
 use Rattle.listing_rules.specs.Listing.{bytes_of}
 use Rattle.listing_rules.specs.Lent.{room_for}
 use Rattle.listing_rules.proofs.Lines.{one_line, bytes_append}
@@ -34,31 +38,35 @@ use Rattle.listing.proofs.Stepping.{taken, next_notes}
 -- ---- the line of a step
 
 module _ (team : ℤ) (kind node : ℕ) (a : Answer) where
-  pub batch_note : grants ADVANCE kind a ≡ true
+  pub refused_note : a.code ≢ 0 → bytes_of (note_of team kind node a) ≡ []
+  unfolding note_of bytes_of
+  refused_note bad = rw (ne_eqb a.code 0 bad, no_and (eqb kind ADVANCE), no_and (eqb kind EXPAND))
+    where
+      no_and : (b : Bool) → (b && false) ≡ false
+      no_and true = refl
+      no_and false = refl
+
+  pub batch_note : a.code ≡ 0 → kind ≡ ADVANCE
       → bytes_of (note_of team kind node a) ≡ text (batch_line team (pos node) (pos a.«from») (pos a.to))
   unfolding note_of
-  batch_note e = rw (e, one_line)
+  batch_note e f = rw (e, f, one_line)
 
-  pub split_note : grants ADVANCE kind a ≡ false → grants EXPAND kind a ≡ true
-      → bytes_of (note_of team kind node a) ≡ text (split_line (pos node) (pos a.left) (pos a.«from»))
+  pub split_note : a.code ≡ 0 → kind ≡ EXPAND → bytes_of (note_of team kind node a) ≡ text (split_line (pos node) (pos a.left) (pos a.«from»))
   unfolding note_of
   split_note e f = rw (e, f, one_line)
 
-  pub no_note : grants ADVANCE kind a ≡ false → grants EXPAND kind a ≡ false → bytes_of (note_of team kind node a) ≡ []
+  pub no_note : kind ≢ ADVANCE → kind ≢ EXPAND → bytes_of (note_of team kind node a) ≡ []
   unfolding note_of bytes_of
-  no_note e f = rw (e, f)
+  no_note e f = rw (ne_eqb kind ADVANCE e, ne_eqb kind EXPAND f)
 
 -- ---- the open line
 
 module _ (start until teams cap nodes : ℤ) {program : ℕ} where
-  pub open_five : program ≡ 0 → open_by start until teams cap nodes program ≡ open_line start until teams cap nodes
-  open_five e = rw e
-
-  pub open_six : program ≢ 0 → open_by start until teams cap nodes program ≡ open_with_line start until teams cap nodes (pos program)
+  open_six : program ≢ 0 → open_by start until teams cap nodes program ≡ open_with_line start until teams cap nodes (pos program)
   open_six ne = rw (ne_eqb program 0 ne)
 
 -- a line tells of a number what is written of it
-pub open_text : (start until teams cap nodes : ℤ) (program : ℕ)
+open_text : (start until teams cap nodes : ℤ) (program : ℕ)
     → text (open_by (pos (nat_of start)) (pos (nat_of until)) (pos (nat_of teams)) (pos (nat_of cap)) (pos (nat_of nodes)) program)
     ≡ text (open_by start until teams cap nodes program)
 unfolding whole spaced
@@ -74,6 +82,20 @@ open_text start until teams cap nodes program = go (is_named program)
     go : (b : Bool) → text (by b (λ z. pos (nat_of z))) ≡ text (by b (λ z. z))
     go true = refl
     go false = refl
+
+-- the open line of a header, by whether it names a program
+pub head_five : (o : Opening) (p : Option ℕ) → p ≡ None
+    → text (open_line (pos (nat_of o.start)) (pos (nat_of o.until)) (pos (nat_of o.teams)) (pos (nat_of o.cap)) (pos (nat_of o.nodes)))
+    ≡ text (head_line o (told_program p))
+head_five o p e = rw e (open_text o.start o.until o.teams o.cap o.nodes 0)
+
+pub head_six : (o : Opening) (p : Option ℕ) (n : ℕ) → p ≡ Some n → may_name p ≡ true
+    → text (open_with_line (pos (nat_of o.start)) (pos (nat_of o.until)) (pos (nat_of o.teams)) (pos (nat_of o.cap)) (pos (nat_of o.nodes)) (pos n))
+    ≡ text (head_line o (told_program p))
+head_six o p n e named =
+    let known : is_program n ≡ true = rw e at named in
+    let some : n ≢ 0 = λ z. false≢true (rw z at known) in
+    rw e (ap (λ (l : Line). text l) (sym (open_six _ _ _ _ _ some)) ∙ open_text o.start o.until o.teams o.cap o.nodes n)
 
 -- ---- lines put after others
 

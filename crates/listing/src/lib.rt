@@ -5,10 +5,9 @@ ghost use Rattle.std.specs.Prelude.{◌≡◌, ◌≤◌, length};
 ghost use Rattle.text_rules.specs.Answers.{area_of};
 ghost use Rattle.line_rules.specs.Written.{at_start};
 ghost use Rattle.listing_rules.specs.Listing.{lines_of, bytes_of};
-ghost use Rattle.listing_rules.specs.Lent.{room_for, has_room, answer_to, out_after, schedule_after};
+ghost use Rattle.listing_rules.specs.Lent.{room_for, has_room, told, answer_to, out_after, schedule_after};
 
-use line_rules::Written;
-use listing_rules::Listed;
+use rules::Refusal;
 
 mod notes;
 mod run;
@@ -17,7 +16,7 @@ mod run;
 fn has_room(steps: usize, bytes: usize) -> bool
     ensures { result ≡ has_room steps bytes }
 {
-    let longest = bytes / Written::LONGEST;
+    let longest = bytes / line_rules::LONGEST;
     if longest < 2 {
         return false;
     }
@@ -31,30 +30,21 @@ fn write(text: &[u8], schedule: &mut [i32], out: &mut [u8]) -> usize
     ensures out_after { out.new ≡ at_start (bytes_of (lines_of (length schedule.old) text.now)) out.old }
     ensures schedule_after { schedule.new ≡ area_of text.now schedule.old }
 {
-    let s = text::read_schedule(text, schedule);
-    if s.code != 0 {
-        return notes::refusal(out, s.code, s.line);
+    match text::read_schedule(text, schedule) {
+        Ok(s) => run::run(&schedule[..s.count], s.header, out),
+        Err(e) => notes::refusal(out, e),
     }
-    run::run(schedule, s.count, s.opening, s.program, out)
 }
 
-// The listing of a text at the front of `out`. The area `schedule` is for the text's team numbers. A call is refused, with 28, where `out`
-// is too short for the longest listing that so many numbers can have; it then changes neither area.
-pub fn list(text: &[u8], schedule: &mut [i32], out: &mut [u8]) -> Listed
-    ensures value { result ≡ answer_to (length schedule.old) text.now (length out.old) }
+// The listing of a text at the front of `out`, and its length. The area `schedule` is for the text's team numbers. A call is refused, with
+// 28, where `out` is too short for the longest listing that so many numbers can have; it then changes neither area.
+pub fn list(text: &[u8], schedule: &mut [i32], out: &mut [u8]) -> Result<usize, Refusal>
+    ensures value { told result ≡ answer_to (length schedule.old) text.now (length out.old) }
     ensures out_after { out.new ≡ out_after (length schedule.old) text.now out.old }
     ensures schedule_after { schedule.new ≡ schedule_after text.now schedule.old (length out.old) }
 {
-    if has_room(schedule.len(), out.len()) {
-        let length = write(text, schedule, out);
-        Listed {
-            code: 0,
-            length: length,
-        }
-    } else {
-        Listed {
-            code: 28,
-            length: 0,
-        }
+    if !has_room(schedule.len(), out.len()) {
+        return Err(Refusal::ShortLine);
     }
+    Ok(write(text, schedule, out))
 }

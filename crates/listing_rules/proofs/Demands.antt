@@ -23,10 +23,9 @@ use Rattle.laws.proofs.Sheets.{every_sheet_once}
 use Rattle.steps.specs.Run.{stopped_teams}
 use Rattle.steps.proofs.Nothing.{nothing_left}
 use Rattle.steps.proofs.Runs.{all_fresh}
-use Rattle.text_rules.specs.declared.Schedule.{Schedule}
 use Rattle.text_rules.specs.Marks.{marks}
 use Rattle.text_rules.specs.Judgement.{schedule_numbers}
-use Rattle.text_rules.specs.Answers.{schedule_of}
+use Rattle.text_rules.specs.Answers.{ScheduleAnswer, schedule_of}
 use Rattle.text_rules.specs.Demands.{schedule_room, WithinLimits}
 use Rattle.text_rules.proofs.Demands.{half_is_enough, granted_within_limits, same_marks, comments_never_matter}
 use Rattle.line_rules.specs.Line.{Line, left_line, refused_line, spaced, whole, text}
@@ -246,7 +245,7 @@ prints_the_listing bytes out enough = stands schedule_room bytes out enough
 
 same_listing : (steps : ℕ) (bytes : List ℕ) → steps ≤ schedule_room → length bytes < 2 * steps → bytes_of (lines_of steps bytes) ≡ listing_of bytes
 unfolding listing_of lines_of
-same_listing steps bytes few short = ap (λ (s : Schedule). bytes_of (lines_by s (teams_in bytes))) (half_is_enough steps bytes few short)
+same_listing steps bytes few short = ap (λ (s : ScheduleAnswer). bytes_of (lines_by s (teams_in bytes))) (half_is_enough steps bytes few short)
 
 pub prints_the_same : PrintsTheSame
 prints_the_same steps bytes out few short enough = rw (same_listing steps bytes few short) at (stands steps bytes out enough)

@@ -11,10 +11,9 @@ use Rattle.text_rules.specs.Answers.{schedule_of}
 use Rattle.text_rules.specs.Demands.{schedule_room, SameButComments}
 use Rattle.line_rules.specs.Line.{Line, open_line, open_with_line, left_line, refused_line, text}
 use Rattle.line_rules.specs.Plain.{is_plain, all}
-use Rattle.listing_rules.specs.declared.Listed.{Listed}
 use Rattle.listing_rules.specs.Steps.{head_line, start_of, end_of}
 use Rattle.listing_rules.specs.Listing.{teams_in, lines_of, bytes_of, listing_of}
-use Rattle.listing_rules.specs.Lent.{room_for, answer_to, out_after, schedule_after}
+use Rattle.listing_rules.specs.Lent.{Listed, room_for, answer_to, out_after, schedule_after}
 use Rattle.listing_rules.specs.Grants.{claims_in, asked}
 
 -- ---- what `sheets` prints

@@ -1,10 +1,9 @@
 -- The listing of a text: the whole program as a definition.
 use Rattle.std.specs.Prelude.{ℕ, cond, List, [], ◌∷◌, ◌++◌, map, eqb, ℤ}
 use Rattle.numbers.specs.Progress.{signed}
-use Rattle.text_rules.specs.declared.Schedule.{Schedule}
 use Rattle.text_rules.specs.Marks.{marks}
 use Rattle.text_rules.specs.Judgement.{schedule_numbers}
-use Rattle.text_rules.specs.Answers.{schedule_of}
+use Rattle.text_rules.specs.Answers.{ScheduleAnswer, schedule_of}
 use Rattle.text_rules.specs.Demands.{schedule_room}
 use Rattle.line_rules.specs.Line.{Line, refused_line, text}
 use Rattle.listing_rules.specs.Steps.{run_lines}
@@ -14,7 +13,7 @@ abbrev pub teams_in : List ℕ → List ℤ
 teams_in bytes = map signed (schedule_numbers (marks bytes))
 
 -- "A refused text prints only `refused CODE LINE`."
-abbrev pub lines_by : Schedule → List ℤ → List Line
+abbrev pub lines_by : ScheduleAnswer → List ℤ → List Line
 lines_by s schedule =
     cond (eqb s.code 0) (run_lines s.opening s.program schedule) (refused_line (signed s.code) (signed s.line) ∷ [])
 

@@ -2,12 +2,13 @@
 #![tactic(auto)]
 
 ghost use Rattle.std.specs.Prelude.{◌≡◌};
-ghost use Rattle.rules.specs.Nodes.{blank, owned, moved, parted, reported, position_of, left_over, marked, unowned, childless, middle, left_part};
+ghost use Rattle.rules.specs.Nodes.{blank, owned, parted, reported, position_of, left_over, marked, unowned, childless, middle, left_part};
 ghost use Rattle.rules.specs.States.{completed, state_of, stolen_of, ended, is_pushed, unready};
+ghost use Rattle.rules.specs.StateCases.{number_of};
 ghost use Rattle.rules.specs.Count.{rest_of};
 ghost use Rattle.nodes.specs.Makers.{held_fresh, held_advanced, held_marked, held_right, part_of, held_pushed};
 
-use rules::{Finds, Node};
+use rules::{Finds, Node, State};
 
 pub mod formed;
 pub mod moves;
@@ -45,7 +46,7 @@ pub fn position_of(x: Node) -> u32
 pub fn left_over(x: Node) -> u32
     ensures { result ≡ left_over x }
 {
-    numbers::less_by(x.until, position_of(x))
+    x.until.saturating_sub(position_of(x))
 }
 
 // The middle is reached from the position by half of the rest, which never passes the range's end; a sum of both ends could.
@@ -53,19 +54,24 @@ pub fn left_over(x: Node) -> u32
 pub fn middle_of(x: Node) -> u32
     ensures { result ≡ middle x }
 {
-    let p = position_of(x);
-    let rest = numbers::less_by(x.until, p);
-    p + rest / 2
+    position_of(x) + left_over(x) / 2
 }
 
 #[tactic(auto, unfolding(rules::specs::States::state_of))]
-pub fn state_of(x: Node) -> u32
-    ensures { result ≡ state_of x }
+pub fn state_of(x: Node) -> State
+    ensures { number_of result ≡ state_of x }
 {
-    let held = numbers::pick(is_unowned(x), Node::AVAILABLE, Node::OWNED);
-    let stolen = numbers::pick(is_marked(x), Node::STOLEN, held);
-    let expanded = numbers::pick(is_marked(x) & !is_childless(x), Node::EXPANDED, stolen);
-    numbers::pick(is_completed(x), Node::COMPLETED, expanded)
+    if is_completed(x) {
+        State::Completed
+    } else if is_marked(x) && !is_childless(x) {
+        State::Expanded
+    } else if is_marked(x) {
+        State::Stolen
+    } else if is_unowned(x) {
+        State::Available
+    } else {
+        State::Owned
+    }
 }
 
 // 1 for a STOLEN node, 0 for any other.
@@ -73,7 +79,7 @@ pub fn state_of(x: Node) -> u32
 pub fn stolen_one(x: Node) -> u32
     ensures { result ≡ stolen_of x }
 {
-    numbers::pick(state_of(x) == Node::STOLEN, 1, 0)
+    u32::from(state_of(x) == State::Stolen)
 }
 
 // What the node adds to the unclaimed count.
@@ -81,7 +87,7 @@ pub fn stolen_one(x: Node) -> u32
 pub fn rest_of(x: Node) -> u32
     ensures { result ≡ rest_of x }
 {
-    numbers::pick(is_childless(x), left_over(x), 0)
+    if is_childless(x) { left_over(x) } else { 0 }
 }
 
 // Whether the node's work has ended: COMPLETED, STOLEN or EXPANDED.
@@ -89,7 +95,7 @@ pub fn rest_of(x: Node) -> u32
 pub fn is_ended(x: Node) -> bool
     ensures { result ≡ ended x }
 {
-    is_completed(x) | is_marked(x)
+    is_completed(x) || is_marked(x)
 }
 
 pub fn is_pushed(x: Node) -> bool
@@ -103,8 +109,7 @@ pub fn is_pushed(x: Node) -> bool
 pub fn is_unready(x: Node, a: Node, b: Node) -> bool
     ensures { result ≡ unready x a b }
 {
-    let both = is_pushed(a) & is_pushed(b);
-    !is_completed(x) & (is_childless(x) | !both)
+    !is_completed(x) && (is_childless(x) || !(is_pushed(a) && is_pushed(b)))
 }
 
 // What a child adds to the joined result of the node: nothing where the node has no children.
@@ -122,82 +127,63 @@ fn part_of(x: Node, child: Node) -> Finds
 pub fn blank_node() -> Node
     ensures { result ≡ blank }
 {
-    let none = finds::none();
-    Node {
-        start: 0,
-        until: 0,
-        progress: 0,
-        owner: 0,
-        left: 0,
-        own: none,
-        joined: none,
-        stage: Node::UNREPORTED,
-    }
+    Node::default()
 }
 
 // A start past the limits is no progress, and is never asked for: the largest progress stands in for it. An empty node is made pushed.
 pub fn fresh_node(a: u32, b: u32) -> Node
     ensures { result ≡ held_fresh a b }
 {
-    let p = numbers::to_signed(a);
-    let none = finds::none();
-    let stage = numbers::pick(a == b, Node::PUSHED, Node::UNREPORTED);
     Node {
         start: a,
         until: b,
-        progress: p,
-        owner: 0,
-        left: 0,
-        own: none,
-        joined: none,
-        stage: stage,
+        progress: numbers::to_signed(a),
+        stage: if a == b {
+            Node::PUSHED
+        } else {
+            Node::UNREPORTED
+        },
+        ..blank_node()
     }
 }
 
 pub fn owned_by(x: Node, team: u32) -> Node
     ensures { result ≡ owned x team }
 {
-    let mut y = x;
-    y.owner = team;
-    y
-}
-
-fn moved_to(x: Node, p: i32) -> Node
-    ensures { result ≡ moved x p }
-{
-    let mut y = x;
-    y.progress = p;
-    y
+    Node { owner: team, ..x }
 }
 
 // The node, advanced to a position. As with a start, none past the limits is asked for.
 pub fn advanced_to(x: Node, p: u32) -> Node
     ensures { result ≡ held_advanced x p }
 {
-    moved_to(x, numbers::to_signed(p))
+    Node {
+        progress: numbers::to_signed(p),
+        ..x
+    }
 }
 
 // The node, marked at a position.
 pub fn marked_at(x: Node, p: u32) -> Node
     ensures { result ≡ held_marked x p }
 {
-    moved_to(x, numbers::mark_of(numbers::to_signed(p)))
+    Node {
+        progress: numbers::mark_of(numbers::to_signed(p)),
+        ..x
+    }
 }
 
 pub fn parted_at(x: Node, left: u32) -> Node
     ensures { result ≡ parted x left }
 {
-    let mut y = x;
-    y.left = left;
-    y
+    Node { left, ..x }
 }
 
 #[tactic(auto, unfolding(rules::specs::Nodes::left_part))]
 pub fn left_part(x: Node) -> Node
     ensures { result ≡ left_part x }
 {
-    let p = position_of(x);
-    fresh_node(p, middle_of(x))
+    fresh_node(position_of(x), middle_of(x))
 }
 
 #[tactic(auto, unfolding(crate::specs::Makers::held_right))]
@@ -211,10 +197,11 @@ pub fn right_part(x: Node) -> Node
 pub fn reported_by(x: Node, f: Finds) -> Node
     ensures { result ≡ reported x f }
 {
-    let mut y = x;
-    y.own = f;
-    y.stage = Node::PREPARED;
-    y
+    Node {
+        own: f,
+        stage: Node::PREPARED,
+        ..x
+    }
 }
 
 // The node, pushed with its own result and those of its children a and b joined.
@@ -222,9 +209,9 @@ pub fn reported_by(x: Node, f: Finds) -> Node
 pub fn pushed_by(x: Node, a: Node, b: Node) -> Node
     ensures { result ≡ held_pushed x a b }
 {
-    let f = finds::join_held(x.own, part_of(x, a), part_of(x, b));
-    let mut y = x;
-    y.joined = f;
-    y.stage = Node::PUSHED;
-    y
+    Node {
+        joined: finds::join_held(x.own, part_of(x, a), part_of(x, b)),
+        stage: Node::PUSHED,
+        ..x
+    }
 }

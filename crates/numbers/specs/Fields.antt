@@ -1,5 +1,5 @@
 -- A request's fields are signed; each test on one reads it as it is, and never casts a negative number.
-use Rattle.std.specs.Prelude.{ℕ, Bool, true, false, ◌&&◌, ℤ, pos, negsuc, eqb, leb}
+use Rattle.std.specs.Prelude.{ℕ, Bool, false, ◌&&◌, ℤ, pos, negsuc, eqb, leb}
 
 -- z is the number n
 abbrev pub is_nat : ℤ → ℕ → Bool

@@ -1,5 +1,4 @@
 pub mod Smalls
 pub mod Requesting
 pub mod Opening
-pub mod Zeros
 pub mod Demands

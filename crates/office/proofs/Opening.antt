@@ -4,9 +4,11 @@ use mathlib.Core.Bool.{true, false}
 use mathlib.Core.List.{List, [], ◌∷◌, ◌++◌, append_assoc}
 use Prim.Native.Nat.{ℕ, zero, suc, ◌+◌, ◌-◌, ◌*◌, ◌≤◌, ◌<◌}
 use native.Mathlib.Omega.{arith}
-use lib.IntN.{ℤ, pos, negsuc}
-use lib.ListN.{length, take, drop, replicate, length-append, length-replicate, replicate-append-replicate}
+use lib.IntN.{ℤ, pos, negsuc, ◌-ℤ◌}
+use lib.ListN.{length, take, drop, replicate, length-append, length-drop, length-replicate, replicate-append-replicate}
+use lib.Seq.{length-take-le}
 use borrow.Author.Tests.{lt-ltb, le-ltb, ne_eqb}
+use borrow.Rule.Slice.PartMut.{put_mid}
 use mir.Syntax.{w32}
 use mir.Val.{SFits, to_z, of_z}
 use mir.Facts.{to_z-of_z}
@@ -16,13 +18,13 @@ use Rattle.rules.specs.declared.Opening.{Opening}
 use Rattle.rules.specs.Count.{unclaimed}
 use Rattle.rules.specs.Limits.{max_nodes, opens}
 use Rattle.rules.specs.Nodes.{blank, fresh}
-use Rattle.rules.specs.Opening.{opened}
-use Rattle.layout.specs.Sizes.{head_size, node_size, area_size, teams_place, room_place, used_place}
+use Rattle.rules.specs.Opening.{opened, ledger_of}
+use Rattle.layout.specs.Sizes.{head_size, node_size, area_size}
 use Rattle.layout.specs.Numbers.{four, fours, bits_of, written}
 use Rattle.layout.specs.Areas.{decoded, encoded, head_bytes, node_fields, node_bytes, nodes_bytes}
-use Rattle.layout.proofs.Fours.{fours-length, wrote_first, wrote_next}
+use Rattle.layout.proofs.Fours.{fours-length}
 use Rattle.layout.proofs.Whole.{node_length}
-use Rattle.layout.proofs.Writing.{written_on, written_front}
+use Rattle.layout.proofs.Writing.{copied, written_length, written_on, written_front}
 use Rattle.office_forms.specs.Codes.{formed_code}
 use Rattle.office.specs.Calls.{count_of, opening_of, open_code, open_area}
 use Rattle.office.proofs.Smalls.{Formed, passes, broken, short, formed}
@@ -58,39 +60,38 @@ new_bytes : (a b t m : ℕ) → 1 ≤ m → m ≤ max_nodes
 unfolding encoded head_bytes opened
 new_bytes a b t m p q = ap (fours (heads a b t m) ++◌) (rows 1022 m (fresh a b) p q)
 
-pub new_area : (bs : List ℕ) (a b t m : ℕ) {x : Node} {z : ℕ} {s1 s2 s3 s4 s5 s6 s7 : List ℕ} → 1 ≤ m → m ≤ max_nodes → area_size m ≤ length bs
+-- the slots after the root, up to the end
+abbrev later : ℕ → ℕ
+later m = area_size m - (head_size + node_size)
+
+-- the numbers, the root and zeros over the slots after it, written one after the other
+pub new_area : (bs : List ℕ) (a b t m : ℕ) {x : Node} {s1 s2 zs : List ℕ} → 1 ≤ m → m ≤ max_nodes → area_size m ≤ length bs
+    → s1 ≡ written bs 0 (fours (heads a b t m))
     → x ≡ fresh a b
-    → z ≡ node_size * (m - 1)
-    → s1 ≡ written bs 0 (four a)
-    → s2 ≡ written s1 4 (four b)
-    → s3 ≡ written s2 teams_place (four t)
-    → s4 ≡ written s3 room_place (four m)
-    → s5 ≡ written s4 used_place (four 1)
-    → s6 ≡ written s5 head_size (node_bytes x)
-    → s7 ≡ written s6 (head_size + node_size) (replicate z 0)
-    → s7 ≡ encoded (opened a b t m) ++ drop (area_size m) bs
-new_area bs a b t m {x} {z} {s5 = s5} {s6 = s6} {s7 = s7} p q long ex ez e1 e2 e3 e4 e5 e6 e7 =
-    let zs : List ℕ = replicate z 0 in
-    let size : length zs ≡ z = length-replicate z 0 in
-    let w1 = wrote_first e1 in
-    let w2 = wrote_next b 4 refl (omega arith) w1 e2 in
-    let w3 = wrote_next t teams_place refl (omega arith) w2 e3 in
-    let w4 = wrote_next m room_place refl (omega arith) w3 e4 in
-    let w5 : s5 ≡ written bs 0 (fours (heads a b t m)) = (wrote_next 1 used_place refl (omega arith) w4 e5).is in
+    → s2 ≡ written s1 head_size (node_bytes x)
+    → zs ≡ replicate (length (take (later m) (drop (head_size + node_size) s2))) 0
+    → put_mid (head_size + node_size) (later m) s2 zs ≡ encoded (opened a b t m) ++ drop (area_size m) bs
+new_area bs a b t m {x} {s1} {s2} {zs} p q long e1 ex e2 ez =
+    let k = node_size * (m - 1) in
     let hs = fours (heads a b t m) in
     let hl : length hs ≡ head_size = fours-length (heads a b t m) in
     let nl : length (node_bytes x) ≡ node_size = node_length x in
-    let six : s6 ≡ written bs 0 (hs ++ node_bytes x) =
-    e6 ∙ (ap (λ (d : List ℕ). written d head_size (node_bytes x)) w5 ∙ written_on bs 0 head_size hs (node_bytes x) (omega arith) (omega arith)) in
     let hn : length (hs ++ node_bytes x) ≡ head_size + node_size = length-append hs (node_bytes x) ∙ omega arith in
-    let seven : s7 ≡ written bs 0 ((hs ++ node_bytes x) ++ zs) =
-    e7
-    ∙ (ap (λ (d : List ℕ). written d (head_size + node_size) zs) six
+    let two : s2 ≡ written bs 0 (hs ++ node_bytes x) =
+    e2 ∙ (ap (λ (d : List ℕ). written d head_size (node_bytes x)) e1 ∙ written_on bs 0 head_size hs (node_bytes x) (omega arith) (omega arith)) in
+    let sized : length s2 ≡ length bs = ap length two ∙ written_length bs 0 (hs ++ node_bytes x) (omega arith) in
+    let rest : length (take (later m) (drop (head_size + node_size) s2)) ≡ k =
+    length-take-le (later m) (drop (head_size + node_size) s2) (omega (arith, length-drop (head_size + node_size) s2)) ∙ omega arith in
+    let zeros : zs ≡ replicate k 0 = rw rest at ez in
+    let size : length zs ≡ k = rw zeros (length-replicate k 0) in
+    let three : put_mid (head_size + node_size) (later m) s2 zs ≡ written bs 0 ((hs ++ node_bytes x) ++ zs) =
+    copied s2 zs (head_size + node_size) (later m) (omega arith)
+    ∙ (ap (λ (d : List ℕ). written d (head_size + node_size) zs) two
     ∙ written_on bs 0 (head_size + node_size) (hs ++ node_bytes x) zs (omega arith) (omega arith)) in
     let all : length ((hs ++ node_bytes x) ++ zs) ≡ area_size m = length-append (hs ++ node_bytes x) zs ∙ omega arith in
     let same : (hs ++ node_bytes x) ++ zs ≡ encoded (opened a b t m) =
-    append_assoc hs (node_bytes x) zs ∙ (rw (ex, ez) (sym (new_bytes a b t m p q))) in
-    seven ∙ (written_front bs ((hs ++ node_bytes x) ++ zs) ∙ rw (all, same))
+    append_assoc hs (node_bytes x) zs ∙ (rw (ex, zeros) (sym (new_bytes a b t m p q))) in
+    three ∙ (written_front bs ((hs ++ node_bytes x) ++ zs) ∙ rw (all, same))
 
 -- ---- the ways out of an opening
 
@@ -118,10 +119,9 @@ module _ (bs : List ℕ) (o : Opening) where
   unfolding open_area
   kept_area k e ne = rw (e, ne_eqb k 0 ne)
 
-  pub good_area : open_code bs o ≡ 0 → {a b t m : ℕ} → a ≡ nat_of o.start → b ≡ nat_of o.until → t ≡ nat_of o.teams → m ≡ nat_of o.nodes
-      → encoded (opened a b t m) ++ drop (area_size m) bs ≡ open_area bs o
+  pub good_area : open_code bs o ≡ 0 → encoded (ledger_of o) ++ drop size bs ≡ open_area bs o
   unfolding open_area
-  good_area e ea eb et em = rw (e, ea, eb, et, em)
+  good_area e = rw e
 
 -- ---- the count
 
@@ -129,14 +129,15 @@ pub count_given : (bs : List ℕ) → formed_code bs ≡ 0 → pos (unclaimed (d
 unfolding count_of
 count_given bs e = rw e
 
-pub count_refused : (bs : List ℕ) (k : ℕ) → formed_code bs ≡ suc k → negsuc k ≡ count_of bs
+count_refused : (bs : List ℕ) (k : ℕ) → formed_code bs ≡ suc k → negsuc k ≡ count_of bs
 unfolding count_of
 count_refused bs k e = let z : suc k - 1 ≡ k = omega arith in rw (e, ne_eqb (suc k) 0 (λ h. omega arith), z)
 
-pub last_code : (bs : List ℕ) → (formed_code bs ≡ 0 → ⊥) → (formed_code bs ≡ 1 → ⊥) → formed_code bs ≡ 37
-last_code bs not-0 not-1 = go (formed bs)
+-- the code of a refusal, with a minus
+pub minus_code : (bs : List ℕ) {n : ℕ} → n ≡ formed_code bs → (n ≡ 0 → ⊥) → to_z w32 (of_z w32 (pos 0 -ℤ to_z w32 n)) ≡ count_of bs
+minus_code bs {n} is some = go (formed bs)
   where
-    go : Formed bs → formed_code bs ≡ 37
-    go (passes e q p) = absurd (not-0 e)
-    go (broken e q p) = absurd (not-1 e)
-    go (short e p) = e
+    go : Formed bs → to_z w32 (of_z w32 (pos 0 -ℤ to_z w32 n)) ≡ count_of bs
+    go (passes e q p) = absurd (some (is ∙ e))
+    go (broken e q p) = rw (is ∙ e) (count_refused bs 0 e)
+    go (short e p) = rw (is ∙ e) (count_refused bs 36 e)

@@ -7,11 +7,17 @@ use native.Mathlib.Omega.{arith}
 use lib.Dec.{leb, eqb}
 use lib.IntN.{pos}
 use borrow.Author.Tests.{leb-true}
+use mir.Syntax.{w32}
+use mir.Val.{to_z}
+use mir.Facts.{to_z_pos}
+use Rattle.std.proofs.Common.{◌≢◌}
 use Rattle.numbers.specs.Fields.{nat_of}
 use Rattle.numbers.specs.Progress.{signed}
 use Rattle.numbers.proofs.Laws.{signed_is}
 use Rattle.rules.specs.declared.Outcome.{Outcome}
 use Rattle.rules.specs.declared.Request.{Request}
+use Rattle.rules.specs.declared.refusal.Refusal.{Refusal}
+use Rattle.rules.specs.Refused as refused
 use Rattle.rules.specs.declared.View.{View}
 use Rattle.rules.specs.declared.Change.TheVariants.{Keep}
 use Rattle.rules.specs.Asks.{by_kind}
@@ -111,3 +117,11 @@ formed bs = go (too_short bs) (well_formed (decoded bs)) refl refl
     go true w p q = short (rw p) p
     go false true p q = passes (rw (p, q)) q p
     go false false p q = broken (rw (p, q)) q p
+
+-- no refusal's code is 0
+pub some_code : (e : Refusal) → refused.code_of e ≢ 0
+some_code e = grind arith
+
+-- a small code as a signed number
+pub as_signed : {n k : ℕ} → n ≡ k → k ≤ 37 → to_z w32 n ≡ pos k
+as_signed {n} {k} e h = rw e (to_z_pos w32 {n = k} (omega arith))

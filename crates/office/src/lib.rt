@@ -5,9 +5,9 @@
 ghost use Rattle.std.specs.Prelude.{◌≡◌, pos, length};
 ghost use Rattle.rules.specs.Asks.{request};
 ghost use Rattle.office_forms.specs.Codes.{formed_code};
-ghost use Rattle.office.specs.Calls.{code_of, area_after, answer_after, count_of, opening_of, open_code, open_area};
+ghost use Rattle.office.specs.Calls.{telling, code_of, area_after, answer_after, count_of, opening_of, open_code, open_area};
 
-use rules::{Opening, Request};
+use rules::{Opening, Refusal, Request};
 
 mod opens;
 
@@ -17,24 +17,27 @@ pub fn yol_open(ledger: &mut [u8], start: i32, until: i32, teams: i32, cap: i32,
     ensures area { ledger.new ≡ open_area ledger.old (opening_of start until teams cap nodes) }
 {
     let o = Opening {
-        start: start,
-        until: until,
-        teams: teams,
-        cap: cap,
-        nodes: nodes,
+        start,
+        until,
+        teams,
+        cap,
+        nodes,
     };
-    if o.is_good() {
-        let room = numbers::natural(nodes);
-        if ledger.len() < layout::HEAD + layout::NODE * (room as usize) {
-            return 37;
-        }
-        let first = numbers::natural(start);
-        let last = numbers::natural(until);
-        let count = numbers::natural(teams);
-        opens::put_new(ledger, first, last, count, room);
-        return 0;
+    if !o.is_good() {
+        return Refusal::Opening.code() as i32;
     }
-    20
+    if ledger.len() < layout::HEAD + layout::NODE * numbers::natural(nodes) as usize {
+        return Refusal::Short.code() as i32;
+    }
+    opens::put_new(ledger, o);
+    0
+}
+
+// Whether the answer of a request with this code is written: one that is granted, and one on a node that is split already.
+fn tells(code: u32) -> bool
+    ensures { result ≡ telling code }
+{
+    code == 0 || code == Refusal::AlreadySplit.code()
 }
 
 // One request: returns its code, changes the area as it was granted, and at 0 and 16 writes the answer.
@@ -55,41 +58,27 @@ pub fn yol_request(
     ensures out { answer.new ≡ answer_after ledger.old answer.old (request kind team node position amount count first last) }
 {
     if answer.len() < layout::ANSWER {
-        return 37;
+        return Refusal::Short.code() as i32;
     }
-    let j = office_forms::judge(ledger);
-    if j.code != 0 {
-        return numbers::to_signed(j.code);
-    }
+    let formed = match office_forms::judge(ledger) {
+        Ok(formed) => formed,
+        Err(e) => return e.code() as i32,
+    };
     let r = Request::new(kind, team, node, position, amount, count, first, last);
-    let n = numbers::natural(node);
-    let o = office_views::outcome_of(ledger, j.stolen, r);
-    let c = o.change;
-    let a = o.answer;
-    office_stores::apply(ledger, n, c);
-    let code = a.code;
-    let told = (code == 0) | (code == 16);
-    let number = numbers::to_signed(code);
-    if told {
-        office_views::put_answer(answer, a);
-        return number;
+    let o = office_views::outcome_of(&formed, r);
+    office_stores::apply(ledger, numbers::natural(node), o.change);
+    if tells(o.answer.code) {
+        office_views::put_answer(answer, o.answer);
     }
-    number
+    numbers::to_signed(o.answer.code)
 }
 
 // The unclaimed count, or the code of its refusal with a minus.
-#[tactic(auto, using(office_forms::proofs::Held::code_of, office_views::proofs::Laws::rest_small, crate::proofs::Opening::count_given))]
 pub fn yol_unclaimed(ledger: &[u8]) -> i32
     ensures { result ≡ count_of ledger.now }
 {
-    let j = office_forms::judge(ledger);
-    if j.code == 0 {
-        let used = layout::number_at(ledger, layout::USED);
-        let k = office_views::unclaimed_in(ledger, used);
-        return k as i32;
+    match office_forms::judge(ledger) {
+        Ok(formed) => office_views::unclaimed_in(&formed.area) as i32,
+        Err(e) => -(e.code() as i32),
     }
-    if j.code == 1 {
-        return -1;
-    }
-    -37
 }

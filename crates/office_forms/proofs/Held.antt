@@ -1,13 +1,17 @@
 -- What an area tells that the tests let pass.
-use mathlib.Core.Path.{◌≡◌, refl, sym, ap, ◌∙◌}
+use mathlib.Core.Path.{◌≡◌, refl, ap}
 use mathlib.Core.Bool.{Bool, true, false, not, cond}
 use mathlib.Core.List.{List}
 use Prim.Native.Nat.{ℕ, ◌≤◌}
 use native.Mathlib.Omega.{arith}
 use lib.ListN.{length}
+use Rattle.std.specs.Prelude.{Err}
 use Rattle.rules.specs.declared.Ledger.{Ledger}
+use Rattle.rules.specs.declared.refusal.Refusal.{Refusal}
+use Rattle.rules.specs.Refused.{code_of}
+use Rattle.forms.specs.declared.head.Head.{Head}
+use Rattle.forms.specs.Head.{head_of}
 use Rattle.rules.specs.Limits.{max_nodes}
-use Rattle.rules.specs.Table.{stolen_in}
 use Rattle.rules.specs.WellFormed.{numbers_rule, well_formed, Sound}
 use Rattle.rules.proofs.Facts.{both}
 use Rattle.rules.proofs.Record.{WF, rules, both_sound}
@@ -16,8 +20,9 @@ use Rattle.layout.specs.Numbers.{Bytes}
 use Rattle.layout.specs.Areas.{decoded, over, too_short}
 use Rattle.layout.proofs.Slots.{slots_length}
 use Rattle.layout.proofs.Stored.{area_is}
-use Rattle.office_forms.specs.declared.Judged.{Judged}
-use Rattle.office_forms.specs.Codes.{formed_code, judged_of}
+use Rattle.office_forms.specs.Codes.{Judged, formed_code, judged_of}
+use Rattle.office_forms.specs.Told.{told}
+use Rattle.office_forms.specs.Measured.{Measured}
 use Rattle.office_forms.proofs.Codes.{measured}
 
 pub record Held (bs : List ℕ) : Type 0 where
@@ -41,7 +46,7 @@ held bs e = go (too_short bs) (well_formed (decoded bs)) refl refl e
     go true w p q z = absurd (omega arith)
     go false false p q z = absurd (omega arith)
     go false true p q z =
-        let m = measured bs p (numbers_first (decoded bs) q) refl refl refl in
+        let m = measured bs p (numbers_first (decoded bs) q) refl in
         let slots = slots_length bs (omega (arith, m.small)) in
         record {
           short = p;
@@ -60,14 +65,13 @@ module _ (bs : List ℕ) (e : formed_code bs ≡ 0) where
   pub whole : Bytes bs → bs ≡ over bs (decoded bs)
   whole b = area_is bs (record { bytes = b; long = (held bs e).long })
 
+-- the area of a well-formed ledger is measured
+pub formed_area : (bs : List ℕ) → formed_code bs ≡ 0 → {d : Head} → d ≡ head_of (decoded bs) → Measured bs d
+formed_area bs e is = let h = held bs e in measured bs h.short (numbers_first (decoded bs) h.formed) is
+
 -- ---- what is judged
 
-pub code_of : (bs : List ℕ) {j : Judged} → j ≡ judged_of bs → j.code ≡ formed_code bs
+-- a refusal has the area's code
+pub refused : (bs : List ℕ) (e : Refusal) → told (Err e) ≡ judged_of bs → code_of e ≡ formed_code bs
 unfolding judged_of
-code_of bs e = ap (λ (j : Judged). j.code) e
-
-pub stolen_of : (bs : List ℕ) {j : Judged} → j ≡ judged_of bs → j.code ≡ 0 → j.stolen ≡ stolen_in (decoded bs)
-unfolding judged_of
-stolen_of bs e z =
-    let code : formed_code bs ≡ 0 = sym (code_of bs e) ∙ z in
-    ap (λ (j : Judged). j.stolen) e ∙ rw code
+refused bs e w = ap (λ (j : Judged). j.code) w

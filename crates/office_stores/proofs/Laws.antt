@@ -17,7 +17,7 @@ use Rattle.rules.specs.Requests.{changed}
 use Rattle.rules.specs.Table.{at, put, grown}
 use Rattle.rules.proofs.Nodes.{put-length}
 use Rattle.finds.specs.Held.{most_held}
-use Rattle.nodes.specs.Makers.{held_right, held_pushed}
+use Rattle.nodes.specs.Makers.{held_right}
 use Rattle.nodes.proofs.Makers.{right_within, pushed_within}
 use Rattle.layout.specs.Sizes.{area_size, slot_place, used_place, progress_place, owner_place, left_place, own_place, joined_place, stage_place}
 use Rattle.layout.specs.Numbers.{Bytes, four, fours, bits_of, written}
@@ -25,7 +25,7 @@ use Rattle.layout.specs.Areas.{decoded, encoded, over, node_bytes, result_fields
 use Rattle.layout.proofs.Stored.{owned_bytes, moved_bytes, parted_bytes, reported_bytes, pushed_bytes, stored_bytes, grown_bytes}
 use Rattle.office_forms.specs.Codes.{formed_code}
 use Rattle.office_forms.proofs.Held.{held, whole}
-use Rattle.office_stores.specs.Changes.{Roomed}
+use Rattle.office_stores.specs.Changes.{Roomed, push_gives}
 
 same_room : (l : Ledger) (n : ℕ) (x : Node) → (put l n x).room ≡ l.room
 unfolding put
@@ -70,6 +70,10 @@ module _ (bs : List ℕ) (e : formed_code bs ≡ 0) (b : Bytes bs) (n : ℕ) whe
 
   slots : l.room ≤ length l.nodes
   slots = let h = held bs e in omega (arith, h.room, h.slots)
+
+  -- a slot of the room is inside the area
+  pub slot_inside : Roomed l n → {s : ℕ} → s ≡ n - 1 → area_size (s + 1) ≤ length bs
+  slot_inside r is = let h = held bs e in omega (arith, h.long, r.0, r.1)
 
   pub kept_area : bs ≡ over bs (changed l n Keep)
   unfolding changed
@@ -120,21 +124,13 @@ module _ (bs : List ℕ) (e : formed_code bs ≡ 0) (b : Bytes bs) (n : ℕ) whe
       ∙ (sym (pushed_bytes l n tail r.0 r.1 slots f)
       ∙ ap (λ (g : Finds). encoded (put l n (pushed (at l n) g)) ++ tail) is)
 
-  pub pushed_area : Roomed l n → {x y z w : Node} {f : Finds} → (joined_of (at l n) (at l (at l n).left) (at l ((at l n).left + 1))).count ≤ most_held
-      → x ≡ at l n
-      → y ≡ at l x.left
-      → z ≡ at l (x.left + 1)
-      → w ≡ held_pushed x y z
-      → f ≡ w.joined
+  pub pushed_area : Roomed l n → (joined_of (at l n) (at l (at l n).left) (at l ((at l n).left + 1))).count ≤ most_held → {f : Finds}
+      → f ≡ push_gives l n
       → written (written bs (slot_place (n - 1) + joined_place) (fours (result_fields f))) (slot_place (n - 1) + stage_place) (four PUSHED)
       ≡ over bs (changed l n Push)
-  pushed_area r {x} {y} {z} {w} {f} small ex ey ez ew ef =
-      let a = at l (at l n).left in
-      let c = at l ((at l n).left + 1) in
-      let left : y ≡ a = ey ∙ ap (λ (k : Node). at l k.left) ex in
-      let right : z ≡ c = ez ∙ ap (λ (k : Node). at l (k.left + 1)) ex in
-      let made : w ≡ held_pushed (at l n) a c = ew ∙ rw (left, right, ex) refl in
-      pushed_so r f (ef ∙ ap (λ (k : Node). k.joined) (made ∙ pushed_within (at l n) a c small))
+  pushed_area r small {f} ef =
+      let made = pushed_within (at l n) (at l (at l n).left) (at l ((at l n).left + 1)) small in
+      pushed_so r f (ef ∙ ap (λ (k : Node). k.joined) made)
 
   pub split_area : Roomed l n → (c : ℕ) → Roomed l c → Roomed l (c + 1) → l.used + 1 ≡ c → middle (at l n) ≤ max_until
       → {x left right : Node} {s1 s2 s3 s4 : List ℕ}

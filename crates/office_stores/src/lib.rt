@@ -5,88 +5,54 @@ ghost use Rattle.std.specs.Prelude.{◌≡◌};
 ghost use Rattle.rules.specs.Requests.{changed};
 ghost use Rattle.layout.specs.Areas.{decoded, over};
 ghost use Rattle.office_forms.specs.Codes.{formed_code};
-ghost use Rattle.office_stores.specs.Changes.{Inside};
+ghost use Rattle.office_stores.specs.Changes.{Inside, push_gives};
 
-use rules::{Change, Finds};
+use forms::Table;
+use layout::{Field, Found};
+use office_forms::Area;
+use rules::{Change, Finds, Node};
 
-#[tactic(auto, using(crate::proofs::Laws::owned_area))]
-fn own(bytes: &mut [u8], n: u32, team: u32)
-    requires { (formed_code bytes.old ≡ 0) × Inside (decoded bytes.old) n (Change.Own team) }
-    ensures { bytes.new ≡ over bytes.old (changed (decoded bytes.old) n (Change.Own team)) }
+// The joined result that a push gives node n. The node and its children are read again: a push is rare.
+fn joined_in(area: &Area<'_>, n: u32) -> Finds
+    ensures { result ≡ push_gives (decoded area.now.bytes.now) n }
 {
-    layout::put_owner(bytes, (n - 1) as usize, team);
+    let x = area.node(n);
+    let (left, right) = area.children(x);
+    nodes::pushed_by(x, left, right).joined
 }
 
-#[tactic(auto, using(crate::proofs::Laws::advanced_area))]
-fn advance(bytes: &mut [u8], n: u32, p: u32)
-    requires { (formed_code bytes.old ≡ 0) × Inside (decoded bytes.old) n (Change.Advance p) }
-    ensures { bytes.new ≡ over bytes.old (changed (decoded bytes.old) n (Change.Advance p)) }
-{
-    let progress = numbers::to_signed(p);
-    layout::put_progress(bytes, (n - 1) as usize, progress);
-}
-
-#[tactic(auto, using(crate::proofs::Laws::marked_area))]
-fn steal(bytes: &mut [u8], n: u32, p: u32)
-    requires { (formed_code bytes.old ≡ 0) × Inside (decoded bytes.old) n (Change.Mark p) }
-    ensures { bytes.new ≡ over bytes.old (changed (decoded bytes.old) n (Change.Mark p)) }
-{
-    let progress = numbers::mark_of(numbers::to_signed(p));
-    layout::put_progress(bytes, (n - 1) as usize, progress);
-}
-
-// The node gets its left child's number; the two slots after those in use become the children.
+// The node in a slot gets its left child's number; the two slots after those in use become the children.
 fn split(bytes: &mut [u8], n: u32, pair: u32)
     requires { (formed_code bytes.old ≡ 0) × Inside (decoded bytes.old) n (Change.Split pair) }
     ensures { bytes.new ≡ over bytes.old (changed (decoded bytes.old) n (Change.Split pair)) }
 {
     let slot = (n - 1) as usize;
     let x = layout::slot_in(bytes, slot);
-    let a = nodes::left_part(x);
-    let b = nodes::right_part(x);
-    layout::put_left(bytes, slot, pair);
-    layout::put_slot(bytes, (pair - 1) as usize, a);
-    layout::put_slot(bytes, pair as usize, b);
+    layout::put_field(bytes, slot, Field::Left, pair);
+    layout::put_slot(bytes, (pair - 1) as usize, nodes::left_part(x));
+    layout::put_slot(bytes, pair as usize, nodes::right_part(x));
     layout::put_number(bytes, layout::USED, pair + 1);
 }
 
-#[tactic(auto, using(crate::proofs::Laws::reported_area))]
-fn report(bytes: &mut [u8], n: u32, f: Finds)
-    requires { (formed_code bytes.old ≡ 0) × Inside (decoded bytes.old) n (Change.Report f) }
-    ensures { bytes.new ≡ over bytes.old (changed (decoded bytes.old) n (Change.Report f)) }
-{
-    layout::put_own(bytes, (n - 1) as usize, f);
-}
-
-// The joined result is made of the node's own and its children's, which are read again: a push is rare.
-#[tactic(auto, using(layout::proofs::Slots::room_is, crate::proofs::Laws::pushed_area))]
-fn push(bytes: &mut [u8], n: u32)
-    requires { (formed_code bytes.old ≡ 0) × Inside (decoded bytes.old) n Change.Push }
-    ensures { bytes.new ≡ over bytes.old (changed (decoded bytes.old) n Change.Push) }
-{
-    let slot = (n - 1) as usize;
-    let room = layout::number_at(bytes, layout::ROOM);
-    let x = office_views::node_in(bytes, room, n);
-    let a = office_views::node_in(bytes, room, x.left);
-    let b = office_views::slot_or_blank(bytes, room, x.left);
-    let y = nodes::pushed_by(x, a, b);
-    let f = y.joined;
-    layout::put_joined(bytes, slot, f);
-}
-
 // A change of node n. What it stores stands in the ledger's own room, so nothing is tested here.
-#[tactic(auto, using(crate::proofs::Laws::kept_area))]
+#[tactic(auto, using(crate::proofs::Laws::kept_area, crate::proofs::Laws::owned_area))]
 pub fn apply(bytes: &mut [u8], n: u32, c: Change)
     requires { (formed_code bytes.old ≡ 0) × Inside (decoded bytes.old) n c }
     ensures { bytes.new ≡ over bytes.old (changed (decoded bytes.old) n c) }
 {
+    let slot = n.saturating_sub(1) as usize;
     match c {
         Change::Keep => {}
-        Change::Own(team) => own(bytes, n, team),
-        Change::Advance(p) => advance(bytes, n, p),
-        Change::Mark(p) => steal(bytes, n, p),
+        Change::Own(team) => layout::put_field(bytes, slot, Field::Owner, team),
+        Change::Advance(p) => layout::put_progress(bytes, slot, numbers::to_signed(p)),
+        Change::Mark(p) => {
+            layout::put_progress(bytes, slot, numbers::mark_of(numbers::to_signed(p)))
+        }
         Change::Split(pair) => split(bytes, n, pair),
-        Change::Report(f) => report(bytes, n, f),
-        Change::Push => push(bytes, n),
+        Change::Report(f) => layout::put_result(bytes, slot, Found::Own, f, Node::PREPARED),
+        Change::Push => {
+            let f = joined_in(&Area::of(bytes), n);
+            layout::put_result(bytes, slot, Found::Joined, f, Node::PUSHED);
+        }
     }
 }

@@ -1,97 +1,50 @@
 // What a request sees of the ledger that an area stands for, what it answers, and the unclaimed count.
 #![tactic(auto)]
 
-ghost use Rattle.std.specs.Prelude.{◌≡◌, ◌+◌, ◌≤◌, length};
+ghost use Rattle.std.specs.Prelude.{◌≡◌, ◌≤◌, length};
 ghost use Rattle.rules.specs.Count.{unclaimed};
 ghost use Rattle.rules.specs.Requests.{decided, view, node_in};
-ghost use Rattle.rules.specs.Table.{at, stolen_in};
 ghost use Rattle.layout.specs.Sizes.{answer_size};
 ghost use Rattle.layout.specs.Numbers.{written};
 ghost use Rattle.layout.specs.Areas.{decoded};
 ghost use Rattle.office_forms.specs.Codes.{formed_code};
 ghost use Rattle.office_views.specs.Answers.{answer_bytes};
 
-use rules::{Answer, Node, Outcome, Request, View};
+use forms::Table;
+use office_forms::{Area, Formed};
+use rules::{Answer, Outcome, Request, View};
 
-// The node in a slot; past the room there are unused ones alone.
-#[tactic(auto, using(crate::proofs::Laws::slot_node, crate::proofs::Laws::past_node))]
-pub fn slot_or_blank(bytes: &[u8], room: u32, slot: u32) -> Node
-    requires { (formed_code bytes.now ≡ 0) × (room ≡ (decoded bytes.now).room) }
-    ensures { result ≡ at (decoded bytes.now) (slot + 1) }
+// What a request sees of node n.
+#[tactic(auto, unfolding(rules::specs::Requests::view, rules::specs::Table::next_pair))]
+fn view_in(formed: &Formed<'_>, n: u32) -> View
+    ensures { result ≡ view (decoded formed.now.area.bytes.now) n }
 {
-    if slot < room {
-        layout::slot_in(bytes, slot as usize)
-    } else {
-        nodes::blank_node()
-    }
-}
-
-#[tactic(auto, using(crate::proofs::Laws::node_at))]
-pub fn node_in(bytes: &[u8], room: u32, n: u32) -> Node
-    requires { (formed_code bytes.now ≡ 0) × (room ≡ (decoded bytes.now).room) }
-    ensures { result ≡ at (decoded bytes.now) n }
-{
-    slot_or_blank(bytes, room, numbers::less_by(n, 1))
-}
-
-// What node n sees: itself, and the children that it names.
-#[tactic(auto, using(layout::proofs::Slots::room_is, crate::proofs::Laws::view_made))]
-fn view_in(bytes: &[u8], stolen: u32, n: u32) -> View
-    requires { (formed_code bytes.now ≡ 0) × (stolen ≡ stolen_in (decoded bytes.now)) }
-    ensures { result ≡ view (decoded bytes.now) n }
-{
-    let teams = layout::number_at(bytes, layout::TEAMS);
-    let room = layout::number_at(bytes, layout::ROOM);
-    let used = layout::number_at(bytes, layout::USED);
-    let x = node_in(bytes, room, n);
-    let left = node_in(bytes, room, x.left);
-    let right = slot_or_blank(bytes, room, x.left);
-    View {
-        teams: teams,
-        room: room,
-        used: used,
-        stolen: stolen,
-        pair: used + 1,
-        node: x,
-        left: left,
-        right: right,
-    }
+    let area = formed.area;
+    area.view(formed.stolen, area.head.used + 1, n)
 }
 
 #[tactic(auto, using(nodes::proofs::Laws::natural_held))]
-pub fn outcome_of(bytes: &[u8], stolen: u32, r: Request) -> Outcome
-    requires { (formed_code bytes.now ≡ 0) × (stolen ≡ stolen_in (decoded bytes.now)) }
-    ensures { result ≡ decided (view (decoded bytes.now) (node_in r)) r }
+pub fn outcome_of(formed: &Formed<'_>, r: Request) -> Outcome
+    ensures { result ≡ decided (view (decoded formed.now.area.bytes.now) (node_in r)) r }
 {
-    let n = numbers::natural(r.node);
-    let v = view_in(bytes, stolen, n);
+    let v = view_in(formed, numbers::natural(r.node));
     requests::decide(v, r)
 }
 
-#[tactic(auto, using(crate::proofs::Laws::answer_written))]
+#[tactic(auto, unfolding(crate::specs::Answers::answer_bytes))]
 pub fn put_answer(out: &mut [u8], a: Answer)
     requires { answer_size ≤ length out.old }
     ensures { out.new ≡ written out.old 0 (answer_bytes a) }
 {
-    layout::put_number(out, 0, a.code);
-    layout::put_number(out, 4, a.state);
-    layout::put_number(out, 8, a.from);
-    layout::put_number(out, 12, a.to);
-    layout::put_number(out, 16, a.owner);
-    layout::put_number(out, 20, a.left);
+    let numbers = [a.code, a.state, a.from, a.to, a.owner, a.left];
+    layout::put_numbers(out, 0, &numbers);
 }
 
-// What the nodes in use add to the unclaimed count: unused slots add nothing.
-pub fn unclaimed_in(bytes: &[u8], used: u32) -> u64
-    requires { (formed_code bytes.now ≡ 0) × (used ≡ (decoded bytes.now).used) }
-    ensures { result ≡ unclaimed (decoded bytes.now) }
+// The unclaimed count, which the nodes in use make: unused slots add nothing.
+#[tactic(auto, using(crate::proofs::Laws::unclaimed_here))]
+pub fn unclaimed_in(area: &Area<'_>) -> u64
+    requires { formed_code area.now.bytes.now ≡ 0 }
+    ensures { result ≡ unclaimed (decoded area.now.bytes.now) }
 {
-    let mut k: u64 = 0;
-    let mut i: u32 = 0;
-    while i < used {
-        let x = layout::slot_in(bytes, i as usize);
-        k += nodes::rest_of(x) as u64;
-        i += 1;
-    }
-    k
+    area.unclaimed()
 }

@@ -1,108 +1,68 @@
 // A lesson: a ledger with what was granted from it so far. Each step or request is printed, with the listing after it.
 use crate::show;
-use rules::{Answer, Ledger, Opening, Request};
+use crate::show::Asked;
+use numbers::natural;
+use rules::{Answered, Kind, Ledger, Request};
 use sheet_order::{Piece, Pieces};
 use std::io;
-use steps::{Program, Team};
-
-pub(crate) const TAKE: i32 = Request::OWN as i32;
-
-pub(crate) const CLAIM: i32 = Request::ADVANCE as i32;
-
-pub(crate) const MARK: i32 = Request::MARK as i32;
-
-pub(crate) const SPLIT: i32 = Request::EXPAND as i32;
+use steps::{Program, Round, Team};
 
 #[derive(Clone, Copy)]
 pub(crate) struct Lesson {
-    pub(crate) ledger: Ledger,
-    pub(crate) granted: Pieces,
+    ledger: Ledger,
+    granted: Option<Pieces>,
 }
 
-pub(crate) fn opened(start: i32, until: i32, teams: i32, nodes: i32) -> Ledger {
-    let o = ledger::open(Opening {
-        start: start,
-        until: until,
-        teams: teams,
-        cap: 4,
-        nodes: nodes,
-    });
-    let l = o.ledger;
-    l
-}
-
-pub(crate) fn begin(
-    rt: &impl Print,
-    start: i32,
-    until: i32,
-    teams: i32,
-    nodes: i32,
-) -> io::Result<Lesson> {
-    let l = opened(start, until, teams, nodes);
-    let none = Pieces::none();
-    show::listing(rt, l, none)?;
-    Ok(Lesson {
-        ledger: l,
-        granted: none,
-    })
-}
-
-// What was granted so far, with what this answer grants: an advance that was granted is a batch.
-fn noted(granted: Pieces, team: u32, kind: u32, node: u32, a: Answer) -> Pieces {
-    if (kind == Request::ADVANCE) & (a.code == 0) {
-        return granted.with(Piece {
-            team: team,
-            node: node,
-            from: a.from,
-            to: a.to,
-        });
+impl Lesson {
+    pub(crate) fn begin(rt: &impl Print, ledger: Ledger) -> io::Result<Lesson> {
+        let granted = Some(Pieces::none());
+        show::listing(rt, ledger, granted)?;
+        Ok(Lesson { ledger, granted })
     }
-    granted
-}
 
-// The lesson goes on with this ledger, after this answer.
-fn on(
-    rt: &impl Print,
-    had: Pieces,
-    next: Ledger,
-    team: u32,
-    kind: u32,
-    node: u32,
-    a: Answer,
-) -> io::Result<Lesson> {
-    show::asked(rt, team, kind, node, a)?;
-    let granted = noted(had, team, kind, node, a);
-    show::listing(rt, next, granted)?;
-    Ok(Lesson {
-        ledger: next,
-        granted: granted,
-    })
-}
+    // The lesson goes on with this ledger, after what was asked: an advance that was granted is a batch.
+    fn on(self, rt: &impl Print, ledger: Ledger, asked: Asked) -> io::Result<Lesson> {
+        let Asked {
+            team,
+            kind,
+            node,
+            answer,
+        } = asked;
+        let granted = if kind == Kind::Advance.number() && answer.code == 0 {
+            let batch = Piece {
+                team,
+                node,
+                from: answer.from,
+                to: answer.to,
+            };
+            self.granted.and_then(|row| row.with(batch))
+        } else {
+            self.granted
+        };
+        println!(rt; "{asked}")?;
+        show::listing(rt, ledger, granted)?;
+        Ok(Lesson { ledger, granted })
+    }
 
-// A request of anybody.
-pub(crate) fn ask(
-    rt: &impl Print,
-    s: Lesson,
-    kind: i32,
-    team: i32,
-    node: i32,
-    position: i32,
-    amount: i32,
-) -> io::Result<Lesson> {
-    let l = s.ledger;
-    let had = s.granted;
-    let done = ledger::request(l, Request::new(kind, team, node, position, amount, 0, 0, 0));
-    let next = done.ledger;
-    let a = done.answer;
-    on(
-        rt,
-        had,
-        next,
-        numbers::natural(team),
-        numbers::natural(kind),
-        numbers::natural(node),
-        a,
-    )
+    // A request of anybody.
+    fn ask(self, rt: &impl Print, r: Request) -> io::Result<Lesson> {
+        let Answered { ledger, answer } = ledger::request(self.ledger, r);
+        let asked = Asked {
+            team: natural(r.team),
+            kind: natural(r.kind),
+            node: natural(r.node),
+            answer,
+        };
+        self.on(rt, ledger, asked)
+    }
+
+    // Requests one after another.
+    pub(crate) fn ask_all(self, rt: &impl Print, requests: &[Request]) -> io::Result<()> {
+        requests
+            .iter()
+            .try_fold(self, |lesson, r| lesson.ask(rt, *r))?;
+        Ok(())
+    }
 }
 
 // A lesson whose teams follow the team program, each by its record.
@@ -112,36 +72,32 @@ pub(crate) struct Run {
     records: [Team; Team::RECORDS],
 }
 
-pub(crate) fn with_teams(s: Lesson) -> Run {
-    let t = Team::fresh(Program::Scan);
-    Run {
-        lesson: s,
-        records: [t; Team::RECORDS],
+impl Run {
+    pub(crate) fn with_teams(lesson: Lesson) -> Run {
+        Run {
+            lesson,
+            records: [Team::fresh(Program::Scan); Team::RECORDS],
+        }
     }
-}
 
-// One step of a team, at most 4 sheets a batch.
-pub(crate) fn step(rt: &impl Print, run: Run, team: i32) -> io::Result<Run> {
-    let s = run.lesson;
-    let l = s.ledger;
-    let had = s.granted;
-    let records = run.records;
-    let done = rounds::step_in(l, team, 4, records);
-    let round = done.round;
-    let after = done.records;
-    let next = round.ledger;
-    let a = round.answer;
-    let then = on(
-        rt,
-        had,
-        next,
-        numbers::natural(team),
-        round.kind,
-        round.node,
-        a,
-    )?;
-    Ok(Run {
-        lesson: then,
-        records: after,
-    })
+    // One step of a team, at most 4 sheets a batch.
+    pub(crate) fn step(self, rt: &impl Print, team: i32) -> io::Result<Run> {
+        let done = rounds::step_in(self.lesson.ledger, team, 4, self.records);
+        let Round {
+            ledger,
+            kind,
+            node,
+            answer,
+        } = done.round;
+        let asked = Asked {
+            team: natural(team),
+            kind,
+            node,
+            answer,
+        };
+        Ok(Run {
+            lesson: self.lesson.on(rt, ledger, asked)?,
+            records: done.records,
+        })
+    }
 }

@@ -1,10 +1,10 @@
 // Program 2: a search looks at each node, remembers the one with the greatest rest, and goes to it after the last.
 ghost use Rattle.std.specs.Prelude.{◌≡◌};
 ghost use Rattle.steps.specs.Places.{rest_in, sighted, greater, chosen, look_on, greatest_sight, greatest_seek, greatest_mark};
-ghost use Rattle.places.specs.Clipped.{clipped_team};
 
-use crate::records;
-use rules::{Answer, Node};
+use crate::codes;
+use crate::records::Hearer;
+use rules::State;
 use steps::{Memory, Side, Team};
 
 // What is left of the node that is remembered.
@@ -13,24 +13,8 @@ fn rest_in(m: Memory) -> u32
 {
     match m {
         Memory::Nothing => 0,
-        Memory::Free(_, rest) => rest,
-        Memory::Held(_, rest, _) => rest,
+        Memory::Free { rest, .. } | Memory::Held { rest, .. } => rest,
     }
-}
-
-// What there is to remember of the node that is seen.
-fn sighted_by(number: u32, t: Team, a: Answer) -> Memory
-    ensures { result ≡ sighted number (clipped_team t) a }
-{
-    let n = records::node_in(t);
-    let rest = numbers::less_by(a.to, a.from);
-    if a.state == Node::AVAILABLE {
-        return Memory::Free(n, rest);
-    }
-    if crate::is_stealable(number, a) {
-        return Memory::Held(n, rest, a.from);
-    }
-    Memory::Nothing
 }
 
 // The search goes up, so on equal rests the lower number stays.
@@ -47,53 +31,69 @@ fn greater_of(old: Memory, new: Memory) -> Memory
 // What is remembered is taken or marked as it was seen, however long ago.
 #[tactic(auto, unfolding(steps::specs::Places::chosen))]
 fn choose(t: Team) -> Team
-    ensures { result ≡ chosen (clipped_team t) t.memory }
+    ensures { result ≡ chosen t t.memory }
 {
-    let m = t.memory;
-    match m {
-        Memory::Nothing => records::stop_here(t),
-        Memory::Free(n, _) => records::take_at(t, n),
-        Memory::Held(n, _, p) => records::mark_at(t, n, p),
+    match t.memory {
+        Memory::Nothing => t.stop(),
+        Memory::Free { node, .. } => t.take(node),
+        Memory::Held { node, position, .. } => t.mark(node, position),
     }
 }
 
-fn look_on(number: u32, t: Team, a: Answer) -> Team
-    ensures { result ≡ look_on number (clipped_team t) a }
-{
-    let old = t.memory;
-    let new = sighted_by(number, t, a);
-    records::remember(records::onward_from(t), greater_of(old, new))
-}
-
-fn sight(number: u32, t: Team, a: Answer) -> Team
-    ensures { result ≡ greatest_sight number (clipped_team t) a }
-{
-    let state = a.state;
-    match state {
-        Node::STOLEN => records::split_here(t, Side::Right),
-        _ => look_on(number, t, a),
+impl Hearer {
+    // What there is to remember of the node that is seen.
+    fn sighted(self) -> Memory
+        ensures { result ≡ sighted self.number self.team self.answer }
+    {
+        let node = self.team.node;
+        let a = self.answer;
+        let rest = a.to.saturating_sub(a.from);
+        match State::try_from(a.state) {
+            Ok(State::Available) => Memory::Free { node, rest },
+            Ok(State::Owned) if a.owner != self.number => Memory::Held {
+                node,
+                rest,
+                position: a.from,
+            },
+            _ => Memory::Nothing,
+        }
     }
-}
 
-#[tactic(auto, unfolding(steps::specs::Places::greatest_seek))]
-pub(crate) fn seek(number: u32, t: Team, a: Answer) -> Team
-    ensures { result ≡ greatest_seek number (clipped_team t) a }
-{
-    let code = a.code;
-    match code {
-        4 => choose(t),
-        _ => sight(number, t, a),
+    fn look_on(self) -> Team
+        ensures { result ≡ look_on self.number self.team self.answer }
+    {
+        let t = self.team;
+        t.seek(t.node + 1)
+            .remembering(greater_of(t.memory, self.sighted()))
     }
-}
 
-// Any refusal starts a new search.
-#[tactic(auto, unfolding(steps::specs::Places::greatest_mark))]
-pub(crate) fn mark(t: Team, a: Answer) -> Team
-    ensures { result ≡ greatest_mark (clipped_team t) a }
-{
-    let code = a.code;
-    match code {
-        0 => records::split_here(t, Side::Right),
-        _ => records::start_again(t),
+    fn greatest_sight(self) -> Team
+        ensures { result ≡ greatest_sight self.number self.team self.answer }
+    {
+        match State::try_from(self.answer.state) {
+            Ok(State::Stolen) => self.team.split(self.team.node, Side::Right),
+            _ => self.look_on(),
+        }
+    }
+
+    #[tactic(auto, unfolding(steps::specs::Places::greatest_seek))]
+    pub(crate) fn greatest_seek(self) -> Team
+        ensures { result ≡ greatest_seek self.number self.team self.answer }
+    {
+        match self.answer.code {
+            codes::NO_SUCH_NODE => choose(self.team),
+            _ => self.greatest_sight(),
+        }
+    }
+
+    // Any refusal starts a new search.
+    #[tactic(auto, unfolding(steps::specs::Places::greatest_mark))]
+    pub(crate) fn greatest_mark(self) -> Team
+        ensures { result ≡ greatest_mark self.team self.answer }
+    {
+        match self.answer.code {
+            codes::GRANTED => self.team.split(self.team.node, Side::Right),
+            _ => self.again(),
+        }
     }
 }

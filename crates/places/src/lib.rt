@@ -2,42 +2,28 @@
 // program: the scan's stands here, the other's in `greatest`.
 #![tactic(auto)]
 
-ghost use Rattle.std.specs.Prelude.{◌≡◌, cond, eqb};
-ghost use Rattle.steps.specs.Records.{claim, mark, is_stopped};
+ghost use Rattle.std.specs.Prelude.{◌≡◌, pos};
 ghost use Rattle.numbers.specs.Progress.{signed};
 ghost use Rattle.rules.specs.Asks.{plain};
-ghost use Rattle.steps.specs.Places.{stealable, again, onward, grown_size, sight_moves, seek_moves, take_moves, work_moves, claim_moves, mark_moves, split_moves, search_of};
-ghost use Rattle.places.specs.Clipped.{clipped_team, clipped_answer, clipped_asks, clipped_moves};
+ghost use Rattle.rules.specs.Kinds.{number_of};
+ghost use Rattle.steps.specs.Places.{grown_size, sight_moves, seek_moves, take_moves, work_moves, claim_moves, mark_moves, split_moves, search_of};
+ghost use Rattle.places.specs.Clipped.{clipped_asks, clipped_moves};
 
+mod codes;
 mod greatest;
 mod records;
 
-use rules::{Answer, Node, Request};
+use records::Hearer;
+use rules::{Answer, Kind, Request, State};
 use steps::{Place, Program, Side, Team};
 
 // A number past the largest signed one becomes the largest, and no team asks for such a one.
-fn request_of(kind: u32, number: u32, node: u32, position: i32, amount: u32) -> Request
-    ensures { result ≡ plain (signed kind) (signed number) (signed node) position (signed amount) }
+fn request_of(kind: Kind, number: u32, node: u32, position: i32, amount: u32) -> Request
+    ensures { result ≡ plain (pos (number_of kind)) (signed number) (signed node) position (signed amount) }
 {
-    let k = numbers::to_signed(kind);
-    let t = numbers::to_signed(number);
-    let n = numbers::to_signed(node);
-    let a = numbers::to_signed(amount);
-    Request::new(k, t, n, position, a, 0, 0, 0)
-}
-
-pub fn has_stopped(p: Place) -> bool
-    ensures { result ≡ is_stopped p }
-{
-    match p {
-        Place::Seek => false,
-        Place::Take => false,
-        Place::Work => false,
-        Place::Claim => false,
-        Place::Mark => false,
-        Place::Split => false,
-        Place::Stopped => true,
-    }
+    let team = numbers::to_signed(number);
+    let node = numbers::to_signed(node);
+    Request::plain(kind, team, node, position, numbers::to_signed(amount))
 }
 
 // The request that a team makes at its place. One that has stopped makes none, which is a request of kind 0.
@@ -45,176 +31,145 @@ pub fn has_stopped(p: Place) -> bool
 pub fn asks_of(number: u32, t: Team) -> Request
     ensures { result ≡ clipped_asks number t }
 {
-    let n = t.node;
-    let place = t.place;
-    match place {
-        Place::Seek => request_of(Request::LOOK, number, n, 0, 0),
-        Place::Take => request_of(Request::OWN, number, n, 0, 0),
-        Place::Work => request_of(Request::LOOK, number, n, 0, 0),
-        Place::Claim => request_of(Request::ADVANCE, number, n, t.position, t.size),
-        Place::Mark => request_of(Request::MARK, number, n, t.position, 0),
-        Place::Split => request_of(Request::EXPAND, number, n, 0, 0),
-        Place::Stopped => request_of(0, 0, 0, 0, 0),
+    match t.place {
+        Place::Seek => request_of(Kind::Look, number, t.node, 0, 0),
+        Place::Take => request_of(Kind::Own, number, t.node, 0, 0),
+        Place::Work => request_of(Kind::Look, number, t.node, 0, 0),
+        Place::Claim => request_of(Kind::Advance, number, t.node, t.position, t.size),
+        Place::Mark => request_of(Kind::Mark, number, t.node, t.position, 0),
+        Place::Split => request_of(Kind::Expand, number, t.node, 0, 0),
+        Place::Stopped => Request::default(),
     }
 }
 
-pub(crate) fn is_stealable(number: u32, a: Answer) -> bool
-    ensures { result ≡ stealable number a }
-{
-    (a.state == Node::OWNED) & !(a.owner == number)
-}
-
-// An OWNED node of another team is marked, and the team's own is passed.
-fn owned_moves(number: u32, t: Team, a: Answer) -> Team
-    ensures { result ≡ cond (stealable number a) (mark (clipped_team t) (clipped_team t).node a.«from») (onward (clipped_team t)) }
-{
-    if is_stealable(number, a) {
-        records::mark_here(t, a.from)
-    } else {
-        records::onward_from(t)
+impl Hearer {
+    // A node that another team owns is marked, and the team's own is passed.
+    fn sight_moves(self) -> Team
+        ensures { result ≡ sight_moves self.number self.team self.answer }
+    {
+        let t = self.team;
+        let a = self.answer;
+        match State::try_from(a.state) {
+            Ok(State::Available) => t.take(t.node),
+            Ok(State::Owned) if a.owner != self.number => t.mark(t.node, a.from),
+            Ok(State::Stolen) => t.split(t.node, Side::Right),
+            _ => t.seek(t.node + 1),
+        }
     }
-}
 
-fn sight_moves(number: u32, t: Team, a: Answer) -> Team
-    ensures { result ≡ sight_moves number (clipped_team t) a }
-{
-    let state = a.state;
-    match state {
-        Node::AVAILABLE => records::take_here(t),
-        Node::OWNED => owned_moves(number, t, a),
-        Node::STOLEN => records::split_here(t, Side::Right),
-        _ => records::onward_from(t),
+    #[tactic(auto, unfolding(steps::specs::Places::seek_moves))]
+    fn seek_moves(self) -> Team
+        ensures { result ≡ seek_moves self.number self.team self.answer }
+    {
+        match self.answer.code {
+            codes::NO_SUCH_NODE => self.team.stop(),
+            _ => self.sight_moves(),
+        }
     }
-}
 
-#[tactic(auto, unfolding(steps::specs::Places::seek_moves))]
-fn seek_moves(number: u32, t: Team, a: Answer) -> Team
-    ensures { result ≡ seek_moves number (clipped_team t) a }
-{
-    let code = a.code;
-    match code {
-        4 => records::stop_here(t),
-        _ => sight_moves(number, t, a),
+    #[tactic(auto, unfolding(steps::specs::Places::take_moves))]
+    fn take_moves(self) -> Team
+        ensures { result ≡ take_moves self.team self.answer }
+    {
+        match self.answer.code {
+            codes::GRANTED => self.team.sized(1).work(self.team.node),
+            _ => self.again(),
+        }
     }
-}
 
-#[tactic(auto, unfolding(steps::specs::Places::take_moves))]
-fn take_moves(t: Team, a: Answer) -> Team
-    ensures { result ≡ take_moves (clipped_team t) a }
-{
-    let code = a.code;
-    match code {
-        0 => records::work_here(records::resize(t, 1)),
-        _ => records::start_again(t),
+    // A node that is owned is claimed by its owner alone.
+    #[tactic(auto, unfolding(steps::specs::Places::work_moves))]
+    fn work_moves(self) -> Team
+        ensures { result ≡ work_moves self.number self.team self.answer }
+    {
+        let t = self.team;
+        let a = self.answer;
+        match State::try_from(a.state) {
+            Ok(State::Owned) if a.owner == self.number => t.claim(t.node, a.from),
+            Ok(State::Stolen) => t.split(t.node, Side::Left),
+            Ok(State::Expanded) => self.take_child(Side::Left),
+            _ => self.again(),
+        }
     }
-}
 
-// An OWNED node is claimed by its owner alone.
-fn held_moves(number: u32, t: Team, a: Answer) -> Team
-    ensures { result ≡ cond (eqb a.owner number) (claim (clipped_team t) (clipped_team t).node a.«from») (again t) }
-{
-    if a.owner == number {
-        records::claim_here(t, a.from)
-    } else {
-        records::start_again(t)
+    // The lesser of 2 × size and cap. A size that is too large to be doubled is more than any cap.
+    fn grown_size(self) -> u32
+        ensures { result ≡ grown_size self.cap self.team }
+    {
+        self.team.size.saturating_mul(2).min(self.cap)
     }
-}
 
-#[tactic(auto, unfolding(steps::specs::Places::work_moves))]
-fn work_moves(number: u32, t: Team, a: Answer) -> Team
-    ensures { result ≡ work_moves number (clipped_team t) (clipped_answer a) }
-{
-    let state = a.state;
-    match state {
-        Node::OWNED => held_moves(number, t, a),
-        Node::STOLEN => records::split_here(t, Side::Left),
-        Node::EXPANDED => records::take_child(t, Side::Left, a),
-        _ => records::start_again(t),
+    #[tactic(auto, unfolding(steps::specs::Places::claim_moves))]
+    fn claim_moves(self) -> Team
+        ensures { result ≡ claim_moves self.cap self.team self.answer }
+    {
+        let t = self.team;
+        match self.answer.code {
+            codes::GRANTED => t.sized(self.grown_size()).work(t.node),
+            codes::STOLEN => t.split(t.node, Side::Left),
+            _ => t.work(t.node),
+        }
     }
-}
 
-// The lesser of 2 × size and cap. The size is doubled only where that does not pass the cap, so no size can make it wrap.
-fn grown_size(cap: u32, t: Team) -> u32
-    ensures { result ≡ grown_size cap t }
-{
-    let size = t.size;
-    if size <= cap / 2 { 2 * size } else { cap }
-}
-
-#[tactic(auto, unfolding(steps::specs::Places::claim_moves))]
-fn claim_moves(cap: u32, t: Team, a: Answer) -> Team
-    ensures { result ≡ claim_moves cap (clipped_team t) a }
-{
-    let code = a.code;
-    match code {
-        0 => records::work_here(records::resize(t, grown_size(cap, t))),
-        9 => records::split_here(t, Side::Left),
-        _ => records::work_here(t),
+    #[tactic(auto, unfolding(steps::specs::Places::mark_moves))]
+    fn mark_moves(self) -> Team
+        ensures { result ≡ mark_moves self.team self.answer }
+    {
+        let t = self.team;
+        match self.answer.code {
+            codes::GRANTED => t.split(t.node, Side::Right),
+            codes::NO_ROOM => t.seek(t.node + 1),
+            _ => t.seek(t.node),
+        }
     }
-}
 
-#[tactic(auto, unfolding(steps::specs::Places::mark_moves))]
-fn mark_moves(t: Team, a: Answer) -> Team
-    ensures { result ≡ mark_moves (clipped_team t) a }
-{
-    let code = a.code;
-    match code {
-        0 => records::split_here(t, Side::Right),
-        14 => records::onward_from(t),
-        _ => records::seek_here(t),
+    // ---- by the record's program
+
+    #[tactic(auto, unfolding(steps::specs::Places::search_by, steps::specs::Places::seek_moves, steps::specs::Places::greatest_seek))]
+    fn search_seek(self) -> Team
+        ensures { result ≡ (search_of self.team).seeking self.number self.team self.answer }
+    {
+        match self.team.program {
+            Program::Scan => self.seek_moves(),
+            Program::Greatest => self.greatest_seek(),
+        }
     }
-}
 
-// ---- by the record's program
-
-#[tactic(auto, unfolding(steps::specs::Places::search_by, steps::specs::Places::seek_moves, steps::specs::Places::greatest_seek))]
-fn search_seek(number: u32, t: Team, a: Answer) -> Team
-    ensures { result ≡ (search_of t).seeking number (clipped_team t) (clipped_answer a) }
-{
-    let program = t.program;
-    match program {
-        Program::Scan => seek_moves(number, t, a),
-        Program::Greatest => greatest::seek(number, t, a),
+    #[tactic(auto, unfolding(steps::specs::Places::search_by, steps::specs::Places::mark_moves, steps::specs::Places::greatest_mark))]
+    fn search_mark(self) -> Team
+        ensures { result ≡ (search_of self.team).marking self.team self.answer }
+    {
+        match self.team.program {
+            Program::Scan => self.mark_moves(),
+            Program::Greatest => self.greatest_mark(),
+        }
     }
-}
 
-#[tactic(auto, unfolding(steps::specs::Places::search_by, steps::specs::Places::mark_moves, steps::specs::Places::greatest_mark))]
-fn search_mark(t: Team, a: Answer) -> Team
-    ensures { result ≡ (search_of t).marking (clipped_team t) (clipped_answer a) }
-{
-    let program = t.program;
-    match program {
-        Program::Scan => mark_moves(t, a),
-        Program::Greatest => greatest::mark(t, a),
-    }
-}
-
-// A team that comes second to a split is told where the children are, as the first is.
-#[tactic(auto, unfolding(steps::specs::Places::split_moves))]
-fn split_moves(t: Team, a: Answer) -> Team
-    ensures { result ≡ split_moves (clipped_team t) (clipped_answer a) }
-{
-    let side = t.side;
-    let code = a.code;
-    match code {
-        0 | 16 => records::take_child(t, side, a),
-        _ => records::start_again(t),
+    // A team that comes second to a split is told where the children are, as the first is.
+    #[tactic(auto, unfolding(steps::specs::Places::split_moves))]
+    fn split_moves(self) -> Team
+        ensures { result ≡ split_moves self.team self.answer }
+    {
+        match self.answer.code {
+            codes::GRANTED | codes::ALREADY_SPLIT => self.take_child(self.team.side),
+            _ => self.again(),
+        }
     }
 }
 
 // Where an answer sends a team from its place.
-#[tactic(auto, unfolding(crate::specs::Clipped::clipped_moves, steps::specs::Places::take_moves, steps::specs::Places::work_moves, steps::specs::Places::claim_moves, steps::specs::Places::split_moves))]
+#[tactic(auto, unfolding(crate::specs::Clipped::clipped_moves))]
 pub fn moves_of(number: u32, cap: u32, t: Team, a: Answer) -> Team
     ensures { result ≡ clipped_moves number cap t a }
 {
-    let place = t.place;
-    match place {
-        Place::Seek => search_seek(number, t, a),
-        Place::Take => take_moves(t, a),
-        Place::Work => work_moves(number, t, a),
-        Place::Claim => claim_moves(cap, t, a),
-        Place::Mark => search_mark(t, a),
-        Place::Split => split_moves(t, a),
-        Place::Stopped => records::stop_here(t),
+    let hearer = Hearer::clipped(number, cap, t, a);
+    match t.place {
+        Place::Seek => hearer.search_seek(),
+        Place::Take => hearer.take_moves(),
+        Place::Work => hearer.work_moves(),
+        Place::Claim => hearer.claim_moves(),
+        Place::Mark => hearer.search_mark(),
+        Place::Split => hearer.split_moves(),
+        Place::Stopped => hearer.team,
     }
 }

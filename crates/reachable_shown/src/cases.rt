@@ -1,118 +1,119 @@
 // The ledgers that are shown: a new one, those of the worked examples in reachable/specs, a tree of seven nodes, an empty one, and three that no
 // requests make.
-use crate::{book, replay};
-use rules::{Finds, Ledger, Node};
+use crate::replay;
+use rules::{Finds, Ledger, Node, Opening};
+use shown::tables::{NONE, finds, node, opened, reported};
 use std::io;
 
-fn new() -> Ledger {
-    book::bound(0, 5, 2, 7, 1)
+const PREPARED: u32 = Node::PREPARED;
+
+const PUSHED: u32 = Node::PUSHED;
+
+// From start to until, of so many teams, with room for so many nodes, of which these are used.
+fn bound(start: i32, until: i32, teams: i32, room: i32, used: &[Node]) -> Ledger {
+    let mut l = opened(start, until, teams, room);
+    let count = used.len().min(Opening::NODES);
+    l.nodes[..count].copy_from_slice(&used[..count]);
+    l.used = count as u32;
+    l
+}
+
+// At its end, reported and pushed: it has no children, so both results are the same.
+fn finished(start: u32, until: u32, owner: u32, f: Finds) -> Node {
+    let x = node(start, until, numbers::to_signed(until), owner, 0);
+    reported(x, f, f, PUSHED)
 }
 
 // 0..8 split at 3: team 1 owns the left part, and the right part is STOLEN from team 2.
 fn stolen_right() -> Ledger {
-    let l = book::with(book::bound(0, 8, 2, 5, 3), 1, book::plain(0, 8, -4, 1, 2));
-    let m = book::with(l, 2, book::plain(3, 5, 3, 1, 0));
-    book::with(m, 3, book::plain(5, 8, -6, 2, 0))
+    let used = [
+        node(0, 8, -4, 1, 2),
+        node(3, 5, 3, 1, 0),
+        node(5, 8, -6, 2, 0),
+    ];
+    bound(0, 8, 2, 5, &used)
 }
 
 fn three_batches() -> Ledger {
-    let f = book::finds(5, 17, 8999);
-    book::with(
-        book::bound(0, 9000, 1, 1, 1),
-        1,
-        book::finished(0, 9000, 1, f),
-    )
+    let root = finished(0, 9000, 1, finds(5, 17, 8999));
+    bound(0, 9000, 1, 1, &[root])
 }
 
 // The left part is STOLEN and prepared, the right part is prepared, and nothing is reported of the root.
 fn waiting() -> Ledger {
-    let none = book::finds(0, 0, 0);
-    let left = book::plain(3, 5, -5, 2, 0);
-    let right = book::plain(5, 8, 8, 1, 0);
-    let l = book::with(book::bound(0, 8, 3, 6, 3), 1, book::plain(0, 8, -4, 3, 2));
-    let told = book::told(left, book::finds(1, 4, 4), none, Node::PREPARED);
-    let m = book::with(l, 2, told);
-    book::with(m, 3, book::told(right, none, none, Node::PREPARED))
+    let used = [
+        node(0, 8, -4, 3, 2),
+        reported(node(3, 5, -5, 2, 0), finds(1, 4, 4), NONE, PREPARED),
+        reported(node(5, 8, 8, 1, 0), NONE, NONE, PREPARED),
+    ];
+    bound(0, 8, 3, 6, &used)
 }
 
 // The last sheet of 0..3 was stolen: the left part is empty, and nobody asks anything of it.
 fn last_sheet() -> Ledger {
-    let root = book::plain(0, 3, -3, 1, 2);
-    let pushed = book::told(
-        root,
-        book::finds(2, 7, 8),
-        book::finds(3, 7, 9),
-        Node::PUSHED,
-    );
-    let l = book::with(book::bound(0, 3, 2, 3, 3), 1, pushed);
-    let m = book::with(l, 2, nodes::fresh_node(2, 2));
-    book::with(m, 3, book::finished(2, 3, 2, book::finds(1, 9, 9)))
+    let root = node(0, 3, -3, 1, 2);
+    let used = [
+        reported(root, finds(2, 7, 8), finds(3, 7, 9), PUSHED),
+        nodes::fresh_node(2, 2),
+        finished(2, 3, 2, finds(1, 9, 9)),
+    ];
+    bound(0, 3, 2, 3, &used)
 }
 
-// The last four of seven nodes: node 3 was split first, so its pair is 4, and that of node 2 is 6.
-fn grown(l: Ledger) -> Ledger {
-    let a = book::with(l, 4, book::finished(12, 14, 1, book::finds(0, 0, 0)));
-    let b = book::with(a, 5, book::finished(14, 16, 2, book::finds(5, 6, 4)));
-    let c = book::with(b, 6, book::finished(6, 8, 2, book::finds(1, 7, 7)));
-    book::with(c, 7, book::finished(8, 10, 3, book::finds(4, 9, 2)))
-}
-
-fn parent(x: Node, own: Finds, joined: Finds) -> Node {
-    book::told(x, own, joined, Node::PUSHED)
-}
-
-// 0..16, every node reported and pushed.
+// 0..16, every node reported and pushed. Node 3 was split first, so its pair is 4, and that of node 2 is 6.
 fn seven() -> Ledger {
-    let root = parent(
-        book::plain(0, 16, -5, 1, 2),
-        book::finds(2, 5, 3),
-        book::finds(15, 5, 4),
-    );
-    let left = parent(
-        book::plain(4, 10, -7, 1, 6),
-        book::finds(0, 0, 0),
-        book::finds(5, 7, 2),
-    );
-    let right = parent(
-        book::plain(10, 16, -13, 2, 4),
-        book::finds(3, 1, 8),
-        book::finds(8, 1, 4),
-    );
-    let l = book::with(book::bound(0, 16, 3, 7, 7), 1, root);
-    grown(book::with(book::with(l, 2, left), 3, right))
+    let root = node(0, 16, -5, 1, 2);
+    let left = node(4, 10, -7, 1, 6);
+    let right = node(10, 16, -13, 2, 4);
+    let used = [
+        reported(root, finds(2, 5, 3), finds(15, 5, 4), PUSHED),
+        reported(left, NONE, finds(5, 7, 2), PUSHED),
+        reported(right, finds(3, 1, 8), finds(8, 1, 4), PUSHED),
+        finished(12, 14, 1, NONE),
+        finished(14, 16, 2, finds(5, 6, 4)),
+        finished(6, 8, 2, finds(1, 7, 7)),
+        finished(8, 10, 3, finds(4, 9, 2)),
+    ];
+    bound(0, 16, 3, 7, &used)
 }
 
 // An empty root of 5..5 with these results at this stage.
 fn empty(own: Finds, joined: Finds, stage: u32) -> Ledger {
-    let x = book::told(nodes::fresh_node(5, 5), own, joined, stage);
-    book::with(book::bound(5, 5, 2, 3, 1), 1, x)
+    bound(
+        5,
+        5,
+        2,
+        3,
+        &[reported(nodes::fresh_node(5, 5), own, joined, stage)],
+    )
 }
 
 fn real(rt: &impl Print) -> io::Result<()> {
-    replay::shown(rt, "new", new())?;
-    replay::shown(rt, "right part stolen", stolen_right())?;
-    replay::shown(rt, "three batches", three_batches())?;
-    replay::shown(rt, "reports that wait", waiting())?;
-    replay::shown(rt, "last sheet stolen, all pushed", last_sheet())?;
-    replay::shown(rt, "seven nodes, all pushed", seven())
+    for (name, l) in [
+        ("new", opened(0, 5, 2, 7)),
+        ("right part stolen", stolen_right()),
+        ("three batches", three_batches()),
+        ("reports that wait", waiting()),
+        ("last sheet stolen, all pushed", last_sheet()),
+        ("seven nodes, all pushed", seven()),
+    ] {
+        replay::show(rt, name, &l)?;
+    }
+    Ok(())
 }
 
 // With the rule for empty nodes only the first of these is well formed; without it all four would be.
 fn unreal(rt: &impl Print) -> io::Result<()> {
-    let none = book::finds(0, 0, 0);
-    let some = book::finds(4, 1, 2);
-    replay::shown(rt, "empty", empty(none, none, Node::PUSHED))?;
-    replay::shown(
-        rt,
-        "empty and not pushed",
-        empty(none, none, Node::UNREPORTED),
-    )?;
-    replay::shown(rt, "empty and prepared", empty(some, none, Node::PREPARED))?;
-    replay::shown(
-        rt,
-        "empty and pushed with finds",
-        empty(some, some, Node::PUSHED),
-    )
+    let some = finds(4, 1, 2);
+    for (name, own, joined, stage) in [
+        ("empty", NONE, NONE, PUSHED),
+        ("empty and not pushed", NONE, NONE, Node::UNREPORTED),
+        ("empty and prepared", some, NONE, PREPARED),
+        ("empty and pushed with finds", some, some, PUSHED),
+    ] {
+        replay::show(rt, name, &empty(own, joined, stage))?;
+    }
+    Ok(())
 }
 
 pub(crate) fn all(rt: &impl Print) -> io::Result<()> {

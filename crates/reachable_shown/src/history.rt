@@ -1,151 +1,107 @@
 // A history of a ledger, written after the definition in reachable/specs: the pairs by their parents, the nodes without children, the marks of the
-// STOLEN ones, the reports, and the pushes from the last node to the first.
-use crate::calls::Calls;
-use crate::{ask, book, calls};
+// STOLEN ones, the reports, and the pushes from the last node to the first. An unused slot is all 0, and nothing is asked of it.
+use crate::replay::Replay;
+use numbers::to_signed;
 use rules::{Ledger, Node, Opening, Request};
+use shown::asks::{advance, expand, mark, own, push, report};
+use std::io;
 
 // Any team may split and push.
-const ANY: u32 = 1;
+const ANY: i32 = 1;
 
-// The owner's claims, up to the position.
-fn claims(c: Calls, n: u32, x: Node) -> Calls {
-    let mut list = c;
-    let owner = x.owner;
-    let end = nodes::position_of(x);
-    let mut p = x.start;
-    while p < end {
-        let size = numbers::lesser(Request::AMOUNT, numbers::less_by(end, p));
-        list = calls::add(list, ask::advance(owner, n, p, size));
-        p += size;
-    }
-    list
+// The number of the node in a slot.
+fn number_of(slot: usize) -> i32 {
+    to_signed(slot.min(Opening::NODES) as u32 + 1)
 }
 
-fn works(c: Calls, n: u32, x: Node) -> Calls {
+// The owner takes the node, and claims its sheets up to the position.
+fn work<P: Print>(to: &mut Replay<'_, P>, n: i32, x: Node) -> io::Result<()> {
     if nodes::is_unowned(x) {
-        return c;
+        return Ok(());
     }
-    claims(calls::add(c, ask::own(x.owner, n)), n, x)
+    let owner = to_signed(x.owner);
+    let end = nodes::position_of(x);
+    to.ask(own(owner, n))?;
+    for p in (x.start..end).step_by(Request::AMOUNT as usize) {
+        let size = end.saturating_sub(p).min(Request::AMOUNT);
+        to.ask(advance(owner, n, to_signed(p), to_signed(size)))?;
+    }
+    Ok(())
 }
 
-fn steals(c: Calls, n: u32, x: Node) -> Calls {
-    let thief = numbers::pick(x.owner == 1, 2, 1);
-    calls::add(c, ask::mark(thief, n, nodes::position_of(x)))
+fn steal<P: Print>(to: &mut Replay<'_, P>, n: i32, x: Node) -> io::Result<()> {
+    let thief = if x.owner == 1 { 2 } else { 1 };
+    to.ask(mark(thief, n, to_signed(nodes::position_of(x))))
 }
 
-// The first node whose left child has this number.
-fn parent_of(l: Ledger, child: u32) -> u32 {
-    let mut found = 0;
-    let mut n = 1;
-    while n <= book::SMALL {
-        let x = book::node(l, n);
-        found = numbers::pick((found == 0) & (x.left == child), n, found);
-        n += 1;
+// The pairs in the order of their numbers: each parent is worked on, stolen and split.
+fn pairs<P: Print>(l: &Ledger, to: &mut Replay<'_, P>) -> io::Result<()> {
+    for child in (2..l.used).step_by(2) {
+        if let Some(slot) = l.nodes.iter().position(|x| x.left == child) {
+            let n = number_of(slot);
+            let x = l.nodes[slot];
+            work(to, n, x)?;
+            steal(to, n, x)?;
+            to.ask(expand(ANY, n))?;
+        }
     }
-    found
+    Ok(())
 }
 
-fn parts(c: Calls, l: Ledger, child: u32) -> Calls {
-    if child < l.used {
-        let n = parent_of(l, child);
-        let x = book::node(l, n);
-        return calls::add(steals(works(c, n, x), n, x), ask::expand(ANY, n));
+fn leaves<P: Print>(l: &Ledger, to: &mut Replay<'_, P>) -> io::Result<()> {
+    for (slot, x) in l.nodes.iter().enumerate() {
+        if nodes::is_childless(*x) {
+            work(to, number_of(slot), *x)?;
+        }
     }
-    c
+    Ok(())
 }
 
-fn pairs(c: Calls, l: Ledger) -> Calls {
-    let mut list = c;
-    let mut child = 2;
-    while child < book::SMALL {
-        list = parts(list, l, child);
-        child += 2;
+fn thefts<P: Print>(l: &Ledger, to: &mut Replay<'_, P>) -> io::Result<()> {
+    for (slot, x) in l.nodes.iter().enumerate() {
+        if nodes::is_marked(*x) && nodes::is_childless(*x) {
+            steal(to, number_of(slot), *x)?;
+        }
     }
-    list
+    Ok(())
 }
 
-// ---- what is asked of a node by itself: a slot that is not used is all 0, and nothing is asked of it
-
-fn leaf(c: Calls, n: u32, x: Node) -> Calls {
-    if nodes::is_childless(x) {
-        return works(c, n, x);
+fn reports<P: Print>(l: &Ledger, to: &mut Replay<'_, P>) -> io::Result<()> {
+    for (slot, x) in l.nodes.iter().enumerate() {
+        if x.stage != Node::UNREPORTED && x.start != x.until {
+            let count = to_signed(x.own.count);
+            let first = to_signed(x.own.first);
+            let last = to_signed(x.own.last);
+            to.ask(report(to_signed(x.owner), number_of(slot), count, first, last))?;
+        }
     }
-    c
+    Ok(())
 }
 
-fn theft(c: Calls, n: u32, x: Node) -> Calls {
-    if nodes::is_marked(x) & nodes::is_childless(x) {
-        return steals(c, n, x);
+fn pushes<P: Print>(l: &Ledger, to: &mut Replay<'_, P>) -> io::Result<()> {
+    for (slot, x) in l.nodes.iter().enumerate().rev() {
+        if nodes::is_pushed(*x) && x.start != x.until {
+            to.ask(push(ANY, number_of(slot)))?;
+        }
     }
-    c
+    Ok(())
 }
 
-fn report(c: Calls, n: u32, x: Node) -> Calls {
-    if (x.stage != Node::UNREPORTED) & (x.start != x.until) {
-        return calls::add(c, ask::report(x.owner, n, x.own));
-    }
-    c
-}
-
-fn push(c: Calls, n: u32, x: Node) -> Calls {
-    if nodes::is_pushed(x) & (x.start != x.until) {
-        return calls::add(c, ask::push(ANY, n));
-    }
-    c
-}
-
-// ---- of each node, ascending and descending
-
-// The passes that go up.
-const WORK: u32 = 1;
-
-const MARKS: u32 = 2;
-
-const REPORTS: u32 = 3;
-
-fn asked(c: Calls, pass: u32, n: u32, x: Node) -> Calls {
-    if pass == WORK {
-        return leaf(c, n, x);
-    }
-    if pass == MARKS {
-        return theft(c, n, x);
-    }
-    report(c, n, x)
-}
-
-fn ascending(c: Calls, l: Ledger, pass: u32) -> Calls {
-    let mut list = c;
-    let mut n = 1;
-    while n <= book::SMALL {
-        list = asked(list, pass, n, book::node(l, n));
-        n += 1;
-    }
-    list
-}
-
-fn descending(c: Calls, l: Ledger) -> Calls {
-    let mut list = c;
-    let mut n = book::SMALL;
-    while 0 < n {
-        list = push(list, n, book::node(l, n));
-        n -= 1;
-    }
-    list
-}
-
-pub(crate) fn of(l: Ledger) -> Calls {
-    let worked = ascending(pairs(calls::none(), l), l, WORK);
-    let marked = ascending(worked, l, MARKS);
-    descending(ascending(marked, l, REPORTS), l)
+pub(crate) fn play<P: Print>(l: &Ledger, to: &mut Replay<'_, P>) -> io::Result<()> {
+    pairs(l, to)?;
+    leaves(l, to)?;
+    thefts(l, to)?;
+    reports(l, to)?;
+    pushes(l, to)
 }
 
 // A ledger has no cap: that of the least run stands in.
-pub(crate) fn opening(l: Ledger) -> Opening {
+pub(crate) fn opening(l: &Ledger) -> Opening {
     Opening {
-        start: numbers::to_signed(l.start),
-        until: numbers::to_signed(l.until),
-        teams: numbers::to_signed(l.teams),
+        start: to_signed(l.start),
+        until: to_signed(l.until),
+        teams: to_signed(l.teams),
         cap: 1,
-        nodes: numbers::to_signed(l.room),
+        nodes: to_signed(l.room),
     }
 }

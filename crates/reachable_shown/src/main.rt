@@ -2,14 +2,10 @@
 // call gives, and the numbers that come out.
 #![tactic(auto)]
 
-mod ask;
-mod book;
-mod calls;
 mod cases;
 mod history;
-mod print;
+mod lines;
 mod replay;
-mod same;
 
 use std::io;
 

@@ -1,38 +1,13 @@
-// The refusals: each request's tests in the order of document 01's table. The last test is written first, since each line gives what the later ones leave.
+// The refusals: each request's tests, in the order of document 01's table.
 #![tactic(auto)]
 
-ghost use Rattle.std.specs.Prelude.{◌≡◌};
-ghost use Rattle.numbers.specs.Fields.{within, is_nat, same_number};
-ghost use Rattle.rules.specs.Asks.{last_kind};
-ghost use Rattle.rules.specs.Joining.{reportable};
-ghost use Rattle.rules.specs.Limits.{max_amount};
+ghost use Rattle.std.specs.Prelude.{◌≡◌, IfOk, pos};
+ghost use Rattle.numbers.specs.Fields.{is_nat};
+ghost use Rattle.rules.specs.Kinds.{number_of};
 ghost use Rattle.rules.specs.Refusals.{no_room, own_code, advance_code, mark_code, expand_code, report_code, push_code, kind_code, refusal};
+ghost use Rattle.rules.specs.Refused.{code_in};
 
-use rules::{Node, Request, View};
-
-fn good_kind(r: Request) -> bool
-    ensures { result ≡ within r.kind 1 last_kind }
-{
-    numbers::in_range(r.kind, 1, Request::LAST)
-}
-
-fn good_team(r: Request, teams: u32) -> bool
-    ensures { result ≡ within r.team 1 teams }
-{
-    numbers::in_range(r.team, 1, teams)
-}
-
-fn good_node(r: Request, used: u32) -> bool
-    ensures { result ≡ within r.node 1 used }
-{
-    numbers::in_range(r.node, 1, used)
-}
-
-fn good_amount(r: Request) -> bool
-    ensures { result ≡ within r.amount 1 max_amount }
-{
-    numbers::in_range(r.amount, 1, Request::AMOUNT)
-}
+use rules::{Kind, Node, Refusal, Request, View};
 
 fn by_owner(x: Node, r: Request) -> bool
     ensures { result ≡ is_nat r.team x.owner }
@@ -40,108 +15,154 @@ fn by_owner(x: Node, r: Request) -> bool
     numbers::is_number(r.team, x.owner)
 }
 
-fn at_progress(x: Node, r: Request) -> bool
-    ensures { result ≡ same_number r.position x.progress }
-{
-    numbers::same_number(r.position, x.progress)
-}
-
-fn good_report(r: Request) -> bool
-    ensures { result ≡ reportable r.count r.first r.last }
-{
-    finds::is_reportable(r.count, r.first, r.last)
-}
-
 // The sums are taken in 64 bits, where no number of a view can make them wrap.
 fn no_room(v: View) -> bool
     ensures { result ≡ no_room v }
 {
-    (v.room as u64) < (v.used as u64) + 2 * (v.stolen as u64) + 2
+    u64::from(v.room) < u64::from(v.used) + 2 * u64::from(v.stolen) + 2
 }
 
 #[tactic(auto, unfolding(rules::specs::Refusals::own_code))]
-fn own_code(x: Node) -> u32
-    ensures { result ≡ own_code x }
+fn own_tests(x: Node) -> Result<(), Refusal>
+    ensures { code_in result ≡ own_code x }
 {
-    let c6 = numbers::pick(nodes::is_completed(x), 6, 0);
-    numbers::pick(!nodes::is_unowned(x), 5, c6)
+    if !nodes::is_unowned(x) {
+        return Err(Refusal::HasOwner);
+    }
+    if nodes::is_completed(x) {
+        return Err(Refusal::Completed);
+    }
+    Ok(())
 }
 
 #[tactic(auto, unfolding(rules::specs::Refusals::advance_code))]
-fn advance_code(x: Node, r: Request) -> u32
-    ensures { result ≡ advance_code x r }
+fn advance_tests(x: Node, r: Request) -> Result<(), Refusal>
+    ensures { code_in result ≡ advance_code x r }
 {
-    let c10 = numbers::pick(!at_progress(x, r), 10, 0);
-    let c6 = numbers::pick(nodes::is_completed(x), 6, c10);
-    let c9 = numbers::pick(nodes::is_marked(x), 9, c6);
-    let c8 = numbers::pick(!by_owner(x, r), 8, c9);
-    numbers::pick(!good_amount(r), 7, c8)
+    if !numbers::in_range(r.amount, 1, Request::AMOUNT) {
+        return Err(Refusal::Amount);
+    }
+    if !by_owner(x, r) {
+        return Err(Refusal::NotOwner);
+    }
+    if nodes::is_marked(x) {
+        return Err(Refusal::Stolen);
+    }
+    if nodes::is_completed(x) {
+        return Err(Refusal::Completed);
+    }
+    if r.position != x.progress {
+        return Err(Refusal::OldPosition);
+    }
+    Ok(())
 }
 
 #[tactic(auto, unfolding(rules::specs::Refusals::mark_code))]
-fn mark_code(v: View, r: Request) -> u32
-    ensures { result ≡ mark_code v r }
+fn mark_tests(v: View, r: Request) -> Result<(), Refusal>
+    ensures { code_in result ≡ mark_code v r }
 {
     let x = v.node;
-    let c14 = numbers::pick(no_room(v), 14, 0);
-    let c10 = numbers::pick(!at_progress(x, r), 10, c14);
-    let c6 = numbers::pick(nodes::is_completed(x), 6, c10);
-    let c9 = numbers::pick(nodes::is_marked(x), 9, c6);
-    let c12 = numbers::pick(by_owner(x, r), 12, c9);
-    numbers::pick(nodes::is_unowned(x), 11, c12)
+    if nodes::is_unowned(x) {
+        return Err(Refusal::NoOwner);
+    }
+    if by_owner(x, r) {
+        return Err(Refusal::IsOwner);
+    }
+    if nodes::is_marked(x) {
+        return Err(Refusal::Stolen);
+    }
+    if nodes::is_completed(x) {
+        return Err(Refusal::Completed);
+    }
+    if r.position != x.progress {
+        return Err(Refusal::OldPosition);
+    }
+    if no_room(v) {
+        return Err(Refusal::NoRoom);
+    }
+    Ok(())
 }
 
 #[tactic(auto, unfolding(rules::specs::Refusals::expand_code))]
-fn expand_code(x: Node) -> u32
-    ensures { result ≡ expand_code x }
+fn expand_tests(x: Node) -> Result<(), Refusal>
+    ensures { code_in result ≡ expand_code x }
 {
-    let c16 = numbers::pick(!nodes::is_childless(x), 16, 0);
-    numbers::pick(!nodes::is_marked(x), 15, c16)
+    if !nodes::is_marked(x) {
+        return Err(Refusal::NotStolen);
+    }
+    if !nodes::is_childless(x) {
+        return Err(Refusal::AlreadySplit);
+    }
+    Ok(())
 }
 
 #[tactic(auto, unfolding(rules::specs::Refusals::report_code))]
-fn report_code(x: Node, r: Request) -> u32
-    ensures { result ≡ report_code x r }
+fn report_tests(x: Node, r: Request) -> Result<(), Refusal>
+    ensures { code_in result ≡ report_code x r }
 {
-    let c33 = numbers::pick(!good_report(r), 33, 0);
-    let c32 = numbers::pick(!(x.stage == Node::UNREPORTED), 32, c33);
-    let c31 = numbers::pick(!nodes::is_ended(x), 31, c32);
-    numbers::pick(!by_owner(x, r), 8, c31)
+    if !by_owner(x, r) {
+        return Err(Refusal::NotOwner);
+    }
+    if !nodes::is_ended(x) {
+        return Err(Refusal::NotEnded);
+    }
+    if x.stage != Node::UNREPORTED {
+        return Err(Refusal::Reported);
+    }
+    if !finds::is_reportable(r.count, r.first, r.last) {
+        return Err(Refusal::Result);
+    }
+    Ok(())
 }
 
 #[tactic(auto, unfolding(rules::specs::Refusals::push_code))]
-fn push_code(v: View) -> u32
-    ensures { result ≡ push_code v }
+fn push_tests(v: View) -> Result<(), Refusal>
+    ensures { code_in result ≡ push_code v }
 {
-    let x = v.node;
-    let c36 = numbers::pick(nodes::is_unready(x, v.left, v.right), 36, 0);
-    let c35 = numbers::pick(!(x.stage == Node::PREPARED), 35, c36);
-    numbers::pick(nodes::is_pushed(x), 34, c35)
+    if nodes::is_pushed(v.node) {
+        return Err(Refusal::Pushed);
+    }
+    if v.node.stage != Node::PREPARED {
+        return Err(Refusal::NoReport);
+    }
+    if nodes::is_unready(v.node, v.left, v.right) {
+        return Err(Refusal::NotReady);
+    }
+    Ok(())
 }
 
+// The tests that the kind has beside those of all requests.
 #[tactic(auto, unfolding(rules::specs::Refusals::kind_code))]
-fn kind_code(v: View, r: Request) -> u32
-    ensures { result ≡ kind_code v r }
+fn kind_tests(kind: Kind, v: View, r: Request) -> Result<(), Refusal>
+    requires { r.kind ≡ pos (number_of kind) }
+    ensures { code_in result ≡ kind_code v r }
 {
-    let x = v.node;
-    let k = numbers::natural(r.kind);
-    match k {
-        Request::OWN => own_code(x),
-        Request::ADVANCE => advance_code(x, r),
-        Request::MARK => mark_code(v, r),
-        Request::EXPAND => expand_code(x),
-        Request::LOOK => 0,
-        Request::REPORT => report_code(x, r),
-        _ => push_code(v),
+    match kind {
+        Kind::Own => own_tests(v.node),
+        Kind::Advance => advance_tests(v.node, r),
+        Kind::Mark => mark_tests(v, r),
+        Kind::Expand => expand_tests(v.node),
+        Kind::Look => Ok(()),
+        Kind::Report => report_tests(v.node, r),
+        Kind::Push => push_tests(v),
     }
 }
 
-// The code of a request, 0 where it is granted.
+// The kind of a request that is granted, or why it is refused.
 #[tactic(auto, unfolding(rules::specs::Refusals::refusal))]
-pub fn refusal_of(v: View, r: Request) -> u32
-    ensures { result ≡ refusal v r }
+pub fn judge(v: View, r: Request) -> Result<Kind, Refusal>
+    ensures code { code_in result ≡ refusal v r }
+    ensures kind { IfOk result (λ k. r.kind ≡ pos (number_of k)) }
 {
-    let c4 = numbers::pick(!good_node(r, v.used), 4, kind_code(v, r));
-    let c3 = numbers::pick(!good_team(r, v.teams), 3, c4);
-    numbers::pick(!good_kind(r), 2, c3)
+    let Ok(kind) = Kind::try_from(r.kind) else {
+        return Err(Refusal::NoSuchKind);
+    };
+    if !numbers::in_range(r.team, 1, v.teams) {
+        return Err(Refusal::NoSuchTeam);
+    }
+    if !numbers::in_range(r.node, 1, v.used) {
+        return Err(Refusal::NoSuchNode);
+    }
+    kind_tests(kind, v, r)?;
+    Ok(kind)
 }

@@ -1,155 +1,122 @@
 // The rules of a node's report, each broken by itself. Rule 0 marks a well-formed ledger, to compare with.
-use crate::{ask, print};
+use crate::ask::{new, root, rooted};
+use crate::lines::report_in;
 use rules::{Finds, Ledger, Node};
+use shown::Shown;
+use shown::tables::{NONE, finds, node, reported, with_node};
 use std::io;
+
+const UNREPORTED: u32 = Node::UNREPORTED;
+
+const PREPARED: u32 = Node::PREPARED;
+
+const PUSHED: u32 = Node::PUSHED;
 
 // Prints the rule, a node of the ledger, and whether the ledger is well formed.
 fn show(rt: &impl Print, rule: u32, l: Ledger, n: i32) -> io::Result<()> {
-    print::text(rt, "rule")?;
-    print::number(rt, rule)?;
-    print::text(rt, ":")?;
-    print::node_of(rt, l, n)?;
-    print::text(rt, ", well formed")?;
-    print::truth(rt, forms::well_formed(l))?;
-    print::text(rt, "\n")
-}
-
-fn reported(x: Node, own: Finds, joined: Finds, stage: u32) -> Node {
-    let mut y = x;
-    y.own = own;
-    y.joined = joined;
-    y.stage = stage;
-    y
-}
-
-// A root at a progress of team 1.
-fn root(
-    rt: &impl Print,
-    rule: u32,
-    progress: i32,
-    own: Finds,
-    joined: Finds,
-    stage: u32,
-) -> io::Result<()> {
-    show(
-        rt,
-        rule,
-        ask::rooted(reported(ask::root(progress), own, joined, stage)),
-        1,
+    println!(rt;
+        "rule {rule}: {}, well formed {}",
+        report_in(&l, n),
+        Shown(forms::well_formed(l))
     )
 }
 
 // 14: "none, both results 0". 15: "prepared, an ended node, own result passing 33, joined 0".
 fn unpushed(rt: &impl Print) -> io::Result<()> {
-    let none = ask::finds(0, 0, 0);
-    let some = ask::finds(3, 9, 1);
-    root(rt, 0, 2, none, none, 0)?;
-    root(rt, 14, 2, ask::finds(0, 0, 1), none, 0)?;
-    root(rt, 14, 5, some, none, 0)?;
-    root(rt, 14, 5, none, ask::finds(1, 0, 0), 0)?;
-    root(rt, 0, 5, some, none, 1)?;
-    root(rt, 0, -3, some, none, 1)?;
-    root(rt, 15, 2, some, none, 1)?;
-    root(rt, 15, 5, ask::finds(1000001, 0, 0), none, 1)?;
-    root(rt, 15, 5, ask::finds(0, 1, 0), none, 1)?;
-    root(
-        rt,
-        15,
-        5,
-        ask::finds(4294967295, 4294967295, 4294967295),
-        none,
-        1,
-    )?;
-    root(rt, 15, 5, some, some, 1)
+    let some = finds(3, 9, 1);
+    let most = finds(u32::MAX, u32::MAX, u32::MAX);
+    for (rule, progress, own, joined, stage) in [
+        (0, 2, NONE, NONE, UNREPORTED),
+        (14, 2, finds(0, 0, 1), NONE, UNREPORTED),
+        (14, 5, some, NONE, UNREPORTED),
+        (14, 5, NONE, finds(1, 0, 0), UNREPORTED),
+        (0, 5, some, NONE, PREPARED),
+        (0, -3, some, NONE, PREPARED),
+        (15, 2, some, NONE, PREPARED),
+        (15, 5, finds(1000001, 0, 0), NONE, PREPARED),
+        (15, 5, finds(0, 1, 0), NONE, PREPARED),
+        (15, 5, most, NONE, PREPARED),
+        (15, 5, some, some, PREPARED),
+    ] {
+        let x = reported(root(progress), own, joined, stage);
+        show(rt, rule, rooted(x), 1)?;
+    }
+    Ok(())
 }
 
 // 16: "pushed, own passing 33, joined the join, and 36 not given". 18: there is no stage past pushed.
 fn lone(rt: &impl Print) -> io::Result<()> {
-    let none = ask::finds(0, 0, 0);
-    let some = ask::finds(3, 9, 1);
-    root(rt, 0, 5, some, some, 2)?;
-    root(rt, 16, 5, some, none, 2)?;
-    root(rt, 16, 5, some, ask::finds(3, 1, 9), 2)?;
-    root(rt, 16, 5, ask::finds(0, 1, 0), none, 2)?;
-    root(rt, 16, -3, some, some, 2)?;
-    root(rt, 16, 2, none, none, 2)?;
-    root(rt, 18, 5, some, some, 3)?;
-    root(rt, 18, 5, some, some, 4294967295)
+    let some = finds(3, 9, 1);
+    for (rule, progress, own, joined, stage) in [
+        (0, 5, some, some, PUSHED),
+        (16, 5, some, NONE, PUSHED),
+        (16, 5, some, finds(3, 1, 9), PUSHED),
+        (16, 5, finds(0, 1, 0), NONE, PUSHED),
+        (16, -3, some, some, PUSHED),
+        (16, 2, NONE, NONE, PUSHED),
+        (18, 5, some, some, PUSHED + 1),
+        (18, 5, some, some, u32::MAX),
+    ] {
+        let x = reported(root(progress), own, joined, stage);
+        show(rt, rule, rooted(x), 1)?;
+    }
+    Ok(())
 }
 
 // 17: "Empty nodes are made and stay pushed with both results 0".
-fn empty(rt: &impl Print, rule: u32, own: Finds, joined: Finds, stage: u32) -> io::Result<()> {
-    let x = reported(nodes::fresh_node(0, 0), own, joined, stage);
-    show(rt, rule, ask::with(ask::opened(0, 7), 1, x), 1)
-}
-
 fn empties(rt: &impl Print) -> io::Result<()> {
-    let none = ask::finds(0, 0, 0);
-    let some = ask::finds(1, 2, 3);
-    empty(rt, 0, none, none, 2)?;
-    empty(rt, 17, none, none, 0)?;
-    empty(rt, 17, none, none, 1)?;
-    empty(rt, 17, some, some, 2)
+    for (rule, f, stage) in [
+        (0, NONE, PUSHED),
+        (17, NONE, UNREPORTED),
+        (17, NONE, PREPARED),
+        (17, finds(1, 2, 3), PUSHED),
+    ] {
+        let x = reported(nodes::fresh_node(0, 0), f, f, stage);
+        show(rt, rule, with_node(new(0, 7), 1, x), 1)?;
+    }
+    Ok(())
 }
 
 // 0..5 split at 2, pushed with this joined result over children that are at their ends with these.
-fn family(rt: &impl Print, rule: u32, joined: Finds, left: Finds, right: Finds) -> io::Result<()> {
-    let x = nodes::parted_at(ask::root(-3), 2);
-    let mut l = ask::rooted(reported(x, ask::finds(2, 7, 8), joined, 2));
+fn family(joined: Finds, left: Finds, right: Finds) -> Ledger {
+    let x = nodes::parted_at(root(-3), 2);
+    let mut l = rooted(reported(x, finds(2, 7, 8), joined, PUSHED));
     l.used = 3;
-    l = ask::with(l, 2, child(2, 3, left));
-    l = ask::with(l, 3, child(3, 5, right));
-    show(rt, rule, l, 1)
-}
-
-fn child(start: u32, until: u32, f: Finds) -> Node {
-    let mut x = nodes::advanced_to(nodes::fresh_node(start, until), until);
-    x.owner = 2;
-    reported(x, f, f, 2)
+    l.nodes[1] = reported(node(2, 3, 3, 2, 0), left, left, PUSHED);
+    l.nodes[2] = reported(node(3, 5, 5, 2, 0), right, right, PUSHED);
+    l
 }
 
 // 16 of a parent. The sum of three counts of any size is taken whole: none of these joins wraps to a right one.
 fn families(rt: &impl Print) -> io::Result<()> {
-    let none = ask::finds(0, 0, 0);
-    let one = ask::finds(1, 3, 4);
-    let most = ask::finds(4294967295, 5, 6);
-    family(rt, 0, ask::finds(3, 7, 4), none, one)?;
-    family(rt, 0, ask::finds(3, 7, 4), one, none)?;
-    family(rt, 16, ask::finds(2, 7, 8), none, one)?;
-    family(rt, 16, ask::finds(3, 3, 8), one, none)?;
-    family(rt, 16, ask::finds(1, 7, 6), none, most)?;
-    family(rt, 16, ask::finds(0, 7, 6), most, most)
+    let one = finds(1, 3, 4);
+    let most = finds(u32::MAX, 5, 6);
+    for (rule, joined, left, right) in [
+        (0, finds(3, 7, 4), NONE, one),
+        (0, finds(3, 7, 4), one, NONE),
+        (16, finds(2, 7, 8), NONE, one),
+        (16, finds(3, 3, 8), one, NONE),
+        (16, finds(1, 7, 6), NONE, most),
+        (16, finds(0, 7, 6), most, most),
+    ] {
+        show(rt, rule, family(joined, left, right), 1)?;
+    }
+    Ok(())
 }
 
 // 13 again: an unused slot is all 0, its report too.
 fn unused(rt: &impl Print) -> io::Result<()> {
-    let none = ask::finds(0, 0, 0);
-    let some = ask::finds(0, 0, 1);
-    let x = nodes::blank_node();
-    show(
-        rt,
-        13,
-        ask::with(ask::opened(5, 7), 2, reported(x, some, none, 0)),
-        2,
-    )?;
-    show(
-        rt,
-        13,
-        ask::with(ask::opened(5, 7), 2, reported(x, none, some, 0)),
-        2,
-    )?;
-    show(
-        rt,
-        13,
-        ask::with(ask::opened(5, 7), 2, reported(x, none, none, 2)),
-        2,
-    )?;
-    show(
-        rt,
-        13,
-        ask::with(ask::opened(5, 7), 1023, reported(x, some, some, 1)),
-        1023,
-    )
+    let some = finds(0, 0, 1);
+    for (n, own, joined, stage) in [
+        (2, some, NONE, UNREPORTED),
+        (2, NONE, some, UNREPORTED),
+        (2, NONE, NONE, PUSHED),
+        (1023, some, some, PREPARED),
+    ] {
+        let x = reported(nodes::blank_node(), own, joined, stage);
+        show(rt, 13, with_node(new(5, 7), n, x), n)?;
+    }
+    Ok(())
 }
 
 pub(crate) fn all(rt: &impl Print) -> io::Result<()> {

@@ -6,7 +6,7 @@ mod ask;
 mod codes;
 mod formed;
 mod grant;
-mod print;
+mod lines;
 mod tree;
 
 use std::io;

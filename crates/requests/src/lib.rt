@@ -1,38 +1,40 @@
 // What a request decides of the one node it names: its answer, and what it does to the node.
 #![tactic(auto)]
 
-ghost use Rattle.std.specs.Prelude.{◌≡◌};
-ghost use Rattle.rules.specs.Requests.{refused, refusing, ranged, split, seen, outcome, owning, batch_end, advancing, marking, expanding, looking, finds_in, reporting, pushing, granted, decided};
+ghost use Rattle.std.specs.Prelude.{◌≡◌, pos};
+ghost use Rattle.rules.specs.Kinds.{number_of};
+ghost use Rattle.rules.specs.Refused.{code_of};
+ghost use Rattle.rules.specs.Requests.{refused, refusing, ranged, owning, batch_end, advancing, marking, expanding, looking, finds_in, reporting, pushing, granted, decided};
 
-use rules::{Answer, Change, Finds, Node, Outcome, Request, View};
+use rules::{Answer, Change, Finds, Kind, Node, Outcome, Refusal, Request, View};
 
-pub fn refused_by(code: u32) -> Answer
-    ensures { result ≡ refused code }
+// The answer of a team that asks nothing, and of a request that is granted without more.
+pub fn no_answer() -> Answer
+    ensures { result ≡ refused 0 }
+{
+    Answer::default()
+}
+
+pub fn refused_by(refusal: Refusal) -> Answer
+    ensures { result ≡ refused (code_of refusal) }
 {
     Answer {
-        code: code,
-        state: 0,
-        from: 0,
-        to: 0,
-        owner: 0,
-        left: 0,
+        code: refusal.code(),
+        ..no_answer()
     }
 }
 
-// Code 16 tells the late splitter where the children are; any other refusal has only its code.
-fn refusing_by(v: View, code: u32) -> Answer
-    ensures { result ≡ refusing v code }
+// AlreadySplit tells the late splitter where the children are; any other refusal has only its code.
+fn refusing_by(v: View, refusal: Refusal) -> Answer
+    ensures { result ≡ refusing v (code_of refusal) }
 {
-    let x = v.node;
-    let mid = numbers::pick(code == 16, nodes::middle_of(x), 0);
-    let left = numbers::pick(code == 16, x.left, 0);
-    Answer {
-        code: code,
-        state: 0,
-        from: mid,
-        to: 0,
-        owner: 0,
-        left: left,
+    match refusal {
+        Refusal::AlreadySplit => Answer {
+            from: nodes::middle_of(v.node),
+            left: v.node.left,
+            ..refused_by(refusal)
+        },
+        _ => refused_by(refusal),
     }
 }
 
@@ -40,49 +42,9 @@ fn range_answer(from: u32, to: u32) -> Answer
     ensures { result ≡ ranged «from» to }
 {
     Answer {
-        code: 0,
-        state: 0,
-        from: from,
-        to: to,
-        owner: 0,
-        left: 0,
-    }
-}
-
-fn split_answer(left: u32, mid: u32) -> Answer
-    ensures { result ≡ split left mid }
-{
-    Answer {
-        code: 0,
-        state: 0,
-        from: mid,
-        to: 0,
-        owner: 0,
-        left: left,
-    }
-}
-
-fn look_answer(x: Node) -> Answer
-    ensures { result ≡ seen x }
-{
-    let s = nodes::state_of(x);
-    let p = nodes::position_of(x);
-    Answer {
-        code: 0,
-        state: s,
-        from: p,
-        to: x.until,
-        owner: x.owner,
-        left: x.left,
-    }
-}
-
-fn outcome_of(a: Answer, c: Change) -> Outcome
-    ensures { result ≡ outcome a c }
-{
-    Outcome {
-        answer: a,
-        change: c,
+        from,
+        to,
+        ..no_answer()
     }
 }
 
@@ -90,9 +52,10 @@ fn outcome_of(a: Answer, c: Change) -> Outcome
 fn own_outcome(v: View, r: Request) -> Outcome
     ensures { result ≡ owning v r }
 {
-    let x = v.node;
-    let team = numbers::natural(r.team);
-    outcome_of(range_answer(x.start, x.until), Change::Own(team))
+    Outcome {
+        answer: range_answer(v.node.start, v.node.until),
+        change: Change::Own(numbers::natural(r.team)),
+    }
 }
 
 // Two signed numbers that are not negative never make an unsigned sum wrap.
@@ -102,35 +65,44 @@ fn batch_end(x: Node, r: Request) -> u32
 {
     let p = numbers::natural(r.position);
     let k = numbers::natural(r.amount);
-    numbers::lesser(p + k, x.until)
+    (p + k).min(x.until)
 }
 
 #[tactic(auto, unfolding(rules::specs::Requests::advancing))]
 fn advance_outcome(v: View, r: Request) -> Outcome
     ensures { result ≡ advancing v r }
 {
-    let x = v.node;
     let p = numbers::natural(r.position);
-    let e = batch_end(x, r);
-    outcome_of(range_answer(p, e), Change::Advance(e))
+    let end = batch_end(v.node, r);
+    Outcome {
+        answer: range_answer(p, end),
+        change: Change::Advance(end),
+    }
 }
 
 #[tactic(auto, unfolding(rules::specs::Requests::marking))]
 fn mark_outcome(v: View, r: Request) -> Outcome
     ensures { result ≡ marking v r }
 {
-    let x = v.node;
     let p = numbers::natural(r.position);
-    outcome_of(range_answer(p, x.until), Change::Mark(p))
+    Outcome {
+        answer: range_answer(p, v.node.until),
+        change: Change::Mark(p),
+    }
 }
 
 #[tactic(auto, unfolding(rules::specs::Requests::expanding))]
 fn expand_outcome(v: View) -> Outcome
     ensures { result ≡ expanding v }
 {
-    let x = v.node;
-    let pair = v.pair;
-    outcome_of(split_answer(pair, nodes::middle_of(x)), Change::Split(pair))
+    Outcome {
+        answer: Answer {
+            from: nodes::middle_of(v.node),
+            left: v.pair,
+            ..no_answer()
+        },
+        change: Change::Split(v.pair),
+    }
 }
 
 #[tactic(auto, unfolding(rules::specs::Requests::looking))]
@@ -138,19 +110,26 @@ fn look_outcome(v: View) -> Outcome
     ensures { result ≡ looking v }
 {
     let x = v.node;
-    outcome_of(look_answer(x), Change::Keep)
+    Outcome {
+        answer: Answer {
+            code: 0,
+            state: nodes::state_of(x).number(),
+            from: nodes::position_of(x),
+            to: x.until,
+            owner: x.owner,
+            left: x.left,
+        },
+        change: Change::Keep,
+    }
 }
 
 fn finds_in(r: Request) -> Finds
     ensures { result ≡ finds_in r }
 {
-    let count = numbers::natural(r.count);
-    let first = numbers::natural(r.first);
-    let last = numbers::natural(r.last);
     Finds {
-        count: count,
-        first: first,
-        last: last,
+        count: numbers::natural(r.count),
+        first: numbers::natural(r.first),
+        last: numbers::natural(r.last),
     }
 }
 
@@ -158,30 +137,35 @@ fn finds_in(r: Request) -> Finds
 fn report_outcome(r: Request) -> Outcome
     ensures { result ≡ reporting r }
 {
-    let f = finds_in(r);
-    outcome_of(refused_by(0), Change::Report(f))
+    Outcome {
+        answer: no_answer(),
+        change: Change::Report(finds_in(r)),
+    }
 }
 
 #[tactic(auto, unfolding(rules::specs::Requests::pushing))]
 fn push_outcome() -> Outcome
     ensures { result ≡ pushing }
 {
-    outcome_of(refused_by(0), Change::Push)
+    Outcome {
+        answer: no_answer(),
+        change: Change::Push,
+    }
 }
 
 #[tactic(auto, unfolding(rules::specs::Requests::granted))]
-fn granted_by(v: View, r: Request) -> Outcome
+fn granted_by(kind: Kind, v: View, r: Request) -> Outcome
+    requires { r.kind ≡ pos (number_of kind) }
     ensures { result ≡ granted v r }
 {
-    let k = numbers::natural(r.kind);
-    match k {
-        Request::OWN => own_outcome(v, r),
-        Request::ADVANCE => advance_outcome(v, r),
-        Request::MARK => mark_outcome(v, r),
-        Request::EXPAND => expand_outcome(v),
-        Request::LOOK => look_outcome(v),
-        Request::REPORT => report_outcome(r),
-        _ => push_outcome(),
+    match kind {
+        Kind::Own => own_outcome(v, r),
+        Kind::Advance => advance_outcome(v, r),
+        Kind::Mark => mark_outcome(v, r),
+        Kind::Expand => expand_outcome(v),
+        Kind::Look => look_outcome(v),
+        Kind::Report => report_outcome(r),
+        Kind::Push => push_outcome(),
     }
 }
 
@@ -190,10 +174,11 @@ fn granted_by(v: View, r: Request) -> Outcome
 pub fn decide(v: View, r: Request) -> Outcome
     ensures { result ≡ decided v r }
 {
-    let code = refusals::refusal_of(v, r);
-    if code != 0 {
-        let a = refusing_by(v, code);
-        return outcome_of(a, Change::Keep);
+    match refusals::judge(v, r) {
+        Ok(kind) => granted_by(kind, v, r),
+        Err(refusal) => Outcome {
+            answer: refusing_by(v, refusal),
+            change: Change::Keep,
+        },
     }
-    granted_by(v, r)
 }

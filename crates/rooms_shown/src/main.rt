@@ -1,12 +1,9 @@
 // Shows when it matters who rang first: the calls of two rooms in every merged order, and the three exceptions in both orders.
 #![tactic(auto)]
 
-mod ask;
 mod differ;
 mod lists;
 mod merge;
-mod print;
-mod same;
 
 use std::io;
 

@@ -1,113 +1,87 @@
 // The calls of two rooms, three each, made in a merged order.
+ghost use Rattle.std.specs.Prelude.{◌<◌};
+
 use rules::{Answer, Ledger, Request};
+use std::fmt;
 
 // How many calls a room has, and both have.
-pub(crate) const EACH: usize = 3;
+const EACH: usize = 3;
 
-pub(crate) const BOTH: usize = 6;
+pub(crate) const BOTH: usize = 2 * EACH;
 
-// The calls of room 1, and then those of room 2.
+// The calls of room 1, and those of room 2.
 #[derive(Clone, Copy)]
 pub(crate) struct Calls {
-    pub(crate) items: [Request; BOTH],
+    pub(crate) one: [Request; EACH],
+    pub(crate) other: [Request; EACH],
 }
 
-// What was heard so far: each answer at its call's place, and how many calls each room has made.
+// The answers that room 1 heard, and then room 2, and the ledger after the calls.
 #[derive(Clone, Copy)]
 pub(crate) struct Heard {
     pub(crate) ledger: Ledger,
     pub(crate) answers: [Answer; BOTH],
-    pub(crate) one: usize,
-    pub(crate) other: usize,
 }
 
-pub(crate) fn listed(
-    a: Request,
-    b: Request,
-    c: Request,
-    d: Request,
-    e: Request,
-    f: Request,
-) -> Calls {
-    let mut items = [a; BOTH];
-    items[1] = b;
-    items[2] = c;
-    items[3] = d;
-    items[4] = e;
-    items[5] = f;
-    Calls { items: items }
-}
+// Six binary digits, the last one first: where there is a 1 room 1 calls.
+#[derive(Clone, Copy)]
+pub(crate) struct Order(pub(crate) u32);
 
-// Nothing was called yet.
-fn silent(l: Ledger) -> Heard {
-    let none = Answer {
-        code: 0,
-        state: 0,
-        from: 0,
-        to: 0,
-        owner: 0,
-        left: 0,
-    };
-    Heard {
-        ledger: l,
-        answers: [none; BOTH],
-        one: 0,
-        other: 0,
+impl Order {
+    fn is_one(self, turn: u32) -> bool
+        requires { turn < 32 }
+    {
+        self.0 >> turn & 1 == 1
+    }
+
+    // Whether each room makes all its calls.
+    pub(crate) fn is_whole(self) -> bool {
+        self.0.count_ones() == EACH as u32
     }
 }
 
-// Makes the call at place i.
-fn called(h: Heard, calls: Calls, i: usize) -> Heard {
-    let mut next = h;
-    if i < BOTH {
-        let l = h.ledger;
-        let done = ledger::request(l, calls.items[i]);
-        let m = done.ledger;
-        let a = done.answer;
-        next.ledger = m;
-        next.answers[i] = a;
+// Which room calls, six times.
+impl fmt::Display for Order {
+    fn fmt<W: fmt::Write>(&self, f: &mut fmt::Formatter<W>) -> fmt::Result {
+        for turn in 0..BOTH as u32 {
+            write!(f, " {}", if self.is_one(turn) { 1 } else { 2 })?;
+        }
+        Ok(())
     }
-    next
 }
 
-// The next call of room 1, if it has one left.
-fn one_calls(h: Heard, calls: Calls) -> Heard {
-    let i = h.one;
-    if i < EACH {
-        let mut next = called(h, calls, i);
-        next.one = i + 1;
-        return next;
+// The codes of these answers.
+#[derive(Clone, Copy)]
+pub(crate) struct Codes<'a>(pub(crate) &'a [Answer]);
+
+impl fmt::Display for Codes<'_> {
+    fn fmt<W: fmt::Write>(&self, f: &mut fmt::Formatter<W>) -> fmt::Result {
+        for a in self.0 {
+            write!(f, " {}", a.code)?;
+        }
+        Ok(())
     }
-    h
 }
 
-// And of room 2.
-fn other_calls(h: Heard, calls: Calls) -> Heard {
-    let j = h.other;
-    if j < EACH {
-        let mut next = called(h, calls, EACH + j);
-        next.other = j + 1;
-        return next;
+impl Calls {
+    // Makes the calls in this order.
+    pub(crate) fn merged(&self, mut ledger: Ledger, order: Order) -> Heard {
+        let mut answers = [requests::no_answer(); BOTH];
+        let (one, other) = answers.split_at_mut(EACH);
+        let mut one = self.one.iter().zip(one);
+        let mut other = self.other.iter().zip(other);
+        for turn in 0..BOTH as u32 {
+            let next = if order.is_one(turn) {
+                one.next()
+            } else {
+                other.next()
+            };
+            if let Some((r, heard)) = next {
+                let done = ledger::request(ledger, *r);
+                ledger = done.ledger;
+                *heard = done.answer;
+            }
+        }
+        Heard { ledger, answers }
     }
-    h
-}
-
-fn turn(h: Heard, calls: Calls, one: bool) -> Heard {
-    if one {
-        return one_calls(h, calls);
-    }
-    other_calls(h, calls)
-}
-
-// An order is a number of six binary digits, the last one first: where there is a 1 room 1 calls.
-pub(crate) fn merged(l: Ledger, calls: Calls, order: u32) -> Heard {
-    let mut h = silent(l);
-    let mut rest = order;
-    let mut i = 0;
-    while i < BOTH {
-        h = turn(h, calls, rest % 2 == 1);
-        rest = rest / 2;
-        i += 1;
-    }
-    h
 }

@@ -1,106 +1,80 @@
 // A step over the table of team records that the caller lends.
 #![tactic(auto)]
 
-ghost use Rattle.std.specs.Prelude.{◌≡◌};
-ghost use Rattle.rounds.specs.Lent.{slot_in, refused_round, outside_code, apart_step, lent_round, lent_records, table_step};
+ghost use Rattle.std.specs.Prelude.{◌≡◌, ◌<◌, IfOk, cond, not};
+ghost use Rattle.rules.specs.Refused.{code_of, code_in};
+ghost use Rattle.rules.specs.Tests.{first};
+ghost use Rattle.rules.specs.WellFormed.{well_formed};
+ghost use Rattle.rounds.specs.Lent.{slot_in, slot_or, slot_tests, refused_by, lent_round, lent_records, table_step};
 
-use rules::Ledger;
+use rules::{Ledger, Refusal};
 use steps::{Round, Team};
 
-// What a step answers, and the stepping team's record after it.
-#[derive(Clone, Copy)]
-pub struct Apart {
-    pub round: Round,
-    pub team: Team,
-}
-
 // What a step answers, and all records after it.
-#[derive(Clone, Copy)]
+#[derive(Clone, Copy, Debug, PartialEq, Eq)]
 pub struct Table {
     pub round: Round,
     pub records: [Team; Team::RECORDS],
 }
 
-// Where a team's record stands among n lent ones: nowhere, which is n, if the team is none or the records are too few.
+// Where a team's record stands among n lent ones: nowhere, if the team is none or the records are too few.
 #[tactic(auto, unfolding(crate::specs::Lent::slot_in))]
-fn slot(l: Ledger, number: i32, n: usize) -> usize
-    ensures { result ≡ slot_in l number n }
+fn slot(l: &Ledger, number: i32, n: usize) -> Result<usize, Refusal>
+    ensures value { (slot_or n result ≡ slot_in l.now number n) × (code_in result ≡ first (slot_tests l.now number n) 0) }
+    ensures there { IfOk result (λ at. at < n) }
 {
-    if numbers::in_range(number, 1, l.teams) {
-        if n < l.teams as usize {
-            return n;
-        }
-        return numbers::less_by(numbers::natural(number), 1) as usize;
+    if !numbers::in_range(number, 1, l.teams) {
+        return Err(Refusal::NoSuchTeam);
     }
-    n
+    if n < l.teams as usize {
+        return Err(Refusal::FewRecords);
+    }
+    Ok(numbers::natural(number) as usize - 1)
 }
 
-#[tactic(auto, unfolding(crate::specs::Lent::outside_code))]
-fn outside_code(l: Ledger, number: i32, n: usize) -> u32
-    ensures { result ≡ outside_code l number n }
+// 1, the ledger's test, comes before what the slot's tests found.
+fn refused_round(l: Ledger, later: Refusal) -> Round
+    ensures { result ≡ refused_by (cond (not (well_formed l)) 1 (code_of later)) l }
 {
-    let c18 = numbers::pick(n < l.teams as usize, 18, 0);
-    let c3 = numbers::pick(!numbers::in_range(number, 1, l.teams), 3, c18);
-    numbers::pick(!forms::well_formed(l), 1, c3)
-}
-
-fn refused_round(l: Ledger, number: i32, n: usize) -> Round
-    ensures { result ≡ refused_round l number n }
-{
-    let code = outside_code(l, number, n);
-    let answer = requests::refused_by(code);
+    let refusal = if forms::well_formed(l) {
+        later
+    } else {
+        Refusal::NotFormed
+    };
     Round {
         ledger: l,
         kind: 0,
         node: 0,
-        answer: answer,
-    }
-}
-
-#[tactic(auto, unfolding(crate::specs::Lent::apart_step))]
-fn step_one(l: Ledger, number: i32, cap: i32, t: Team) -> Apart
-    ensures { result ≡ apart_step l number cap t }
-{
-    let s = teams::step(l, number, cap, t);
-    let next = s.ledger;
-    let team = s.team;
-    let answer = s.answer;
-    let round = Round {
-        ledger: next,
-        kind: s.kind,
-        node: s.node,
-        answer: answer,
-    };
-    Apart {
-        round: round,
-        team: team,
+        answer: requests::refused_by(refusal),
     }
 }
 
 // One step of a team, in a run with this cap: of the lent records only the stepping team's changes, and none where the step is refused,
 // by 1, 3, 18 or 19 in this order.
+#[tactic(auto, using(numbers::proofs::Signed::held), unfolding(crate::specs::Lent::slot_in, crate::specs::Lent::lent_round, crate::specs::Lent::lent_records, steps::specs::Step::records_after, steps::specs::Step::lent_step, steps::specs::Step::step_unless, steps::specs::Step::lent_code, steps::specs::Step::solo_step, steps::specs::Step::solo_code))]
 pub fn step_lent(l: Ledger, number: i32, cap: i32, records: &mut [Team]) -> Round
     ensures { (result ≡ lent_round l number cap records.old) × (records.new ≡ lent_records l number cap records.old) }
 {
-    let n = records.len();
-    let at = slot(l, number, n);
-    if n <= at {
-        return refused_round(l, number, n);
+    match slot(&l, number, records.len()) {
+        Err(refusal) => refused_round(l, refusal),
+        Ok(at) => {
+            let done = teams::step(l, number, cap, records[at]);
+            records[at] = done.team;
+            Round {
+                ledger: done.ledger,
+                kind: done.kind,
+                node: done.node,
+                answer: done.answer,
+            }
+        }
     }
-    let done = step_one(l, number, cap, records[at]);
-    records[at] = done.team;
-    done.round
 }
 
 // The same over a table by value, which it lends: whoever calls this needs to know nothing of lending.
 #[tactic(auto, unfolding(crate::specs::Lent::table_step))]
-pub fn step_in(l: Ledger, number: i32, cap: i32, records: [Team; Team::RECORDS]) -> Table
+pub fn step_in(l: Ledger, number: i32, cap: i32, mut records: [Team; Team::RECORDS]) -> Table
     ensures { result ≡ table_step l number cap records }
 {
-    let mut table = records;
-    let round = step_lent(l, number, cap, &mut table);
-    Table {
-        round: round,
-        records: table,
-    }
+    let round = step_lent(l, number, cap, &mut records);
+    Table { round, records }
 }

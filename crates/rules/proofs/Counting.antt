@@ -6,7 +6,7 @@ use Prim.Native.Nat.{ℕ, ◌-◌, ◌≤◌}
 use native.Mathlib.Omega.{arith}
 use borrow.Author.Tests.{eq-eqb, ne_eqb}
 use Rattle.rules.specs.declared.Ledger.{Ledger}
-use Rattle.rules.specs.declared.Unclaimed.{Unclaimed}
+use Rattle.rules.specs.Count.{Unclaimed}
 use Rattle.rules.specs.Count.{rest_of, unclaimed, counted}
 use Rattle.rules.specs.Limits.{max_until}
 use Rattle.rules.specs.Nodes.{middle}

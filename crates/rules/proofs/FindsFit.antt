@@ -1,19 +1,16 @@
 -- The joined count of a node: at most the largest count of a report for each node of its tree, and so for each slot in use.
 use mathlib.Core.Path.{◌≡◌, sym, ap, subst, ◌∙◌}
-use mathlib.Core.Bool.{Bool, true, false, cond}
-use mathlib.Core.List.{[], ◌∷◌}
+use mathlib.Core.Bool.{true}
 use Prim.Native.Nat.{ℕ, ◌+◌, ◌*◌, ◌≤◌, ◌<◌}
 use native.Mathlib.Omega.{arith}
 use native.Mathlib.Decide.{ℕ_discrete}
-use lib.IntN.{pos}
 use borrow.Author.Tests.{eq-eqb, ne_eqb}
-use Rattle.numbers.proofs.Laws.{within_true}
 use Rattle.rules.specs.declared.Finds.{Finds}
 use Rattle.rules.specs.declared.Ledger.{Ledger}
 use Rattle.rules.specs.declared.Node.{Node}
 use Rattle.rules.specs.Demands.{JoinedFits}
-use Rattle.rules.specs.Joining.{max_finds, none, join, join_all, reportable, passing}
-use Rattle.rules.specs.Nodes.{UNREPORTED, PREPARED, PUSHED, childless, joined_of}
+use Rattle.rules.specs.Joining.{max_finds, join, join_all, reportable, passing}
+use Rattle.rules.specs.Nodes.{UNREPORTED, PREPARED, joined_of}
 use Rattle.rules.specs.Table.{InUse, at}
 use Rattle.rules.proofs.Facts.{facts}
 use Rattle.rules.proofs.Record.{Staged, WF, rules, left_used, right_used}

@@ -7,15 +7,15 @@ use mathlib.Core.Bool.{Bool, true, false, true≢false}
 use native.Mathlib.Omega.{arith}
 use native.Mathlib.Decide.{dec_le, dec_lt}
 use lib.Dec.{lit≤}
-use lib.IntN.{ℤ, pos}
+use lib.IntN.{pos}
 use lib.ListN.{length}
 use Rattle.rules.specs.declared.Finds.{Finds}
 use Rattle.rules.specs.declared.Node.{Node}
 use Rattle.rules.specs.declared.Ledger.{Ledger}
 use Rattle.rules.specs.Limits.{opens, max_until, max_teams, max_nodes}
 use Rattle.rules.specs.Joining.{none, passing, same_finds}
-use Rattle.rules.specs.Nodes.{UNREPORTED, PREPARED, PUSHED, make_node, blank, marked, unowned, position_of, middle, joined_of}
-use Rattle.rules.specs.States.{ended, is_pushed, unready}
+use Rattle.rules.specs.Nodes.{UNREPORTED, PREPARED, PUSHED, make_node, blank, marked, position_of, middle, joined_of}
+use Rattle.rules.specs.States.{ended, unready}
 use Rattle.rules.specs.Table.{InUse, at, sum_by, stolen_in}
 use Rattle.rules.specs.WellFormed.{well_formed, up_to, Sized, Sound, node_rule, alone_rule, child_rule, stage_rule, pair_rule, unused_rule, is_blank, left_is}
 use Rattle.rules.proofs.Facts.{facts, both, either, leb_f, up_to_t}

@@ -1,17 +1,16 @@
 -- The report of a node: what it needs of its children, that of a new node, and that no request finds a pushed node to change.
-use Prim.Native.Nat.{ℕ, ◌+◌, ◌≤◌, ◌<◌}
+use Prim.Native.Nat.{ℕ, ◌+◌, ◌<◌}
 use mathlib.Core.Path.{◌≡◌, refl, sym, ap, ◌∙◌}
 use mathlib.Core.Logic.{◌≢◌}
-use mathlib.Core.Bool.{Bool, true, false, cond, true≢false}
+use mathlib.Core.Bool.{true, false, true≢false}
 use native.Mathlib.Omega.{arith}
 use native.Mathlib.Decide.{ℕ_discrete}
-use lib.Dec.{eqb}
-use borrow.Author.Tests.{eqb-true, eq-eqb, ne_eqb}
+use borrow.Author.Tests.{eq-eqb, ne_eqb}
 use Rattle.numbers.proofs.Laws.{is_nat_made}
 use Rattle.rules.specs.declared.Node.{Node}
-use Rattle.rules.specs.Joining.{none, join, join_all, reportable, passing}
-use Rattle.rules.specs.Nodes.{UNREPORTED, PREPARED, PUSHED, fresh, stage_for, marked, childless, joined_of}
-use Rattle.rules.specs.States.{completed, ended, is_pushed, unready}
+use Rattle.rules.specs.Joining.{join, join_all, reportable, passing}
+use Rattle.rules.specs.Nodes.{UNREPORTED, PREPARED, PUSHED, fresh, marked, joined_of}
+use Rattle.rules.specs.States.{completed, ended, unready}
 use Rattle.rules.proofs.Facts.{facts}
 use Rattle.rules.proofs.Record.{Staged, Pushed, Empty, GoodNode}
 use Rattle.rules.proofs.States.{going_on}

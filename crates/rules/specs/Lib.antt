@@ -3,13 +3,16 @@ pub mod Limits
 pub mod Joining
 pub mod Nodes
 pub mod States
+pub mod StateCases
 pub mod Asks
+pub mod Kinds
 pub mod Moves
 pub mod Table
 pub mod Opening
 pub mod WellFormed
 pub mod Tests
 pub mod Refusals
+pub mod Refused
 pub mod Requests
 pub mod Count
 pub mod Examples

@@ -1,12 +1,21 @@
 // The ledger's types and their limits. Document 01's rules over them are the definitions of specs/; its demands are theorems of this crate.
 #![tactic(auto)]
 
-ghost use Rattle.std.specs.Prelude.{◌≡◌};
-ghost use Rattle.rules.specs.Asks.{request};
+ghost use Rattle.std.specs.Prelude.{◌≡◌, pos};
+ghost use Rattle.rules.specs.Asks.{request, plain};
+ghost use Rattle.rules.specs.Kinds.{number_of};
 ghost use Rattle.rules.specs.Limits.{opens};
 
+mod kind;
+mod refusal;
+mod state;
+
+pub use kind::{Kind, UnknownKind};
+pub use refusal::Refusal;
+pub use state::{State, UnknownState};
+
 // The five numbers that an opening takes. `cap`, the largest step, belongs to the run; `nodes` is the table room.
-#[derive(Clone, Copy)]
+#[derive(Clone, Copy, Debug, PartialEq, Eq)]
 pub struct Opening {
     pub start: i32,
     pub until: i32,
@@ -16,7 +25,7 @@ pub struct Opening {
 }
 
 // A result: a count of finds, with the labels of the first and of the last.
-#[derive(Clone, Copy)]
+#[derive(Clone, Copy, Debug, Default, PartialEq, Eq)]
 pub struct Finds {
     pub count: u32,
     pub first: u32,
@@ -24,8 +33,9 @@ pub struct Finds {
 }
 
 // A node: its range start..until, its progress, its owner (0 is nobody) and its left child (0 is none); its own result, that joined with its
-// children's, and how far its report has come.
-#[derive(Clone, Copy)]
+// children's, and how far its report has come. A ledger that is handed in may hold any numbers, and the rules judge each (`owners are 0..teams`, `left is even`,
+// stages up to 2), so owner, left child and stage are numbers.
+#[derive(Clone, Copy, Debug, Default, PartialEq, Eq)]
 pub struct Node {
     pub start: u32,
     pub until: u32,
@@ -38,7 +48,7 @@ pub struct Node {
 }
 
 // Node n stands in slot n - 1 of the table.
-#[derive(Clone, Copy)]
+#[derive(Clone, Copy, Debug, PartialEq, Eq)]
 pub struct Ledger {
     pub start: u32,
     pub until: u32,
@@ -48,14 +58,15 @@ pub struct Ledger {
     pub nodes: [Node; Opening::NODES],
 }
 
-// An opened ledger, or the code of a refusal with a ledger that is all 0.
-#[derive(Clone, Copy)]
+// An opened ledger, or the code of a refusal with a ledger that is all 0: no Result, since document 01 promises that ledger too.
+#[derive(Clone, Copy, Debug, PartialEq, Eq)]
 pub struct Opened {
     pub code: u32,
     pub ledger: Ledger,
 }
 
-#[derive(Clone, Copy)]
+// A request may bring any number for its kind, so it is read off by `Kind::try_from`.
+#[derive(Clone, Copy, Debug, Default, PartialEq, Eq)]
 pub struct Request {
     pub kind: i32,
     pub team: i32,
@@ -67,7 +78,8 @@ pub struct Request {
     pub last: i32,
 }
 
-#[derive(Clone, Copy)]
+// The six numbers that document 01 gives an answer, and C reads. A refusal has only its code, but for 16, which has numbers too.
+#[derive(Clone, Copy, Debug, Default, PartialEq, Eq)]
 pub struct Answer {
     pub code: u32,
     pub state: u32,
@@ -78,14 +90,14 @@ pub struct Answer {
 }
 
 // A request's answer, with the ledger after it.
-#[derive(Clone, Copy)]
+#[derive(Clone, Copy, Debug, PartialEq, Eq)]
 pub struct Answered {
     pub ledger: Ledger,
     pub answer: Answer,
 }
 
 // All that a request sees of a well-formed ledger: a few numbers, the number that a new pair would get, its node and that node's children.
-#[derive(Clone, Copy)]
+#[derive(Clone, Copy, Debug, PartialEq, Eq)]
 pub struct View {
     pub teams: u32,
     pub room: u32,
@@ -99,7 +111,7 @@ pub struct View {
 
 // What a request does to its node, and no more: nothing; the owner becomes a team; the progress becomes a position, or the mark of one; the
 // node gets a pair of children, or its own result; or its joined one, which is made where it is stored.
-#[derive(Clone, Copy)]
+#[derive(Clone, Copy, Debug, PartialEq, Eq)]
 pub enum Change {
     Keep,
     Own(u32),
@@ -110,22 +122,15 @@ pub enum Change {
     Push,
 }
 
-#[derive(Clone, Copy)]
+#[derive(Clone, Copy, Debug, PartialEq, Eq)]
 pub struct Outcome {
     pub answer: Answer,
     pub change: Change,
 }
 
-// The unclaimed count, or the code of its refusal with a count of 0.
-#[derive(Clone, Copy)]
-pub struct Unclaimed {
-    pub code: u32,
-    pub count: u64,
-}
-
 impl Opening {
     // The largest end of a range.
-    pub const UNTIL: u32 = 2147483647;
+    pub const UNTIL: u32 = i32::MAX as u32;
 
     pub const TEAMS: u32 = 32;
     // The largest step of a run.
@@ -138,26 +143,15 @@ impl Opening {
     pub fn is_good(self) -> bool
         ensures { result ≡ opens self }
     {
-        let ordered = numbers::in_range(self.start, 0, numbers::natural(self.until));
-        let ends = numbers::in_range(self.until, 0, Opening::UNTIL);
-        let some = numbers::in_range(self.teams, 1, Opening::TEAMS);
-        let steps = numbers::in_range(self.cap, 1, Opening::CAP);
-        let room = numbers::in_range(self.nodes, 1, Opening::NODES as u32);
-        ordered & ends & some & steps & room
+        numbers::in_range(self.start, 0, numbers::natural(self.until))
+            && numbers::in_range(self.until, 0, Opening::UNTIL)
+            && numbers::in_range(self.teams, 1, Opening::TEAMS)
+            && numbers::in_range(self.cap, 1, Opening::CAP)
+            && numbers::in_range(self.nodes, 1, Opening::NODES as u32)
     }
 }
 
 impl Node {
-    // The states of a node.
-    pub const AVAILABLE: u32 = 1;
-
-    pub const OWNED: u32 = 2;
-
-    pub const COMPLETED: u32 = 3;
-
-    pub const STOLEN: u32 = 4;
-
-    pub const EXPANDED: u32 = 5;
     // The stages of a node's report: none, prepared, pushed.
     pub const UNREPORTED: u32 = 0;
 
@@ -168,26 +162,10 @@ impl Node {
 
 impl Finds {
     // The largest count of a report, and the largest label.
-    pub const MOST: u32 = 1000000;
+    pub const MOST: u32 = 1_000_000;
 }
 
 impl Request {
-    // The kinds of requests, and the last of them.
-    pub const OWN: u32 = 1;
-
-    pub const ADVANCE: u32 = 2;
-
-    pub const MARK: u32 = 3;
-
-    pub const EXPAND: u32 = 4;
-
-    pub const LOOK: u32 = 5;
-
-    pub const REPORT: u32 = 6;
-
-    pub const PUSH: u32 = 7;
-
-    pub const LAST: u32 = Request::PUSH;
     // The largest amount of one advance.
     pub const AMOUNT: u32 = 4096;
 
@@ -205,14 +183,20 @@ impl Request {
         ensures { result ≡ request kind team node position amount count first last }
     {
         Request {
-            kind: kind,
-            team: team,
-            node: node,
-            position: position,
-            amount: amount,
-            count: count,
-            first: first,
-            last: last,
+            kind,
+            team,
+            node,
+            position,
+            amount,
+            count,
+            first,
+            last,
         }
+    }
+    // A request that reports nothing. Fields that its kind does not read are 0.
+    pub fn plain(kind: Kind, team: i32, node: i32, position: i32, amount: i32) -> Request
+        ensures { result ≡ plain (pos (number_of kind)) team node position amount }
+    {
+        Request::new(i32::from(kind), team, node, position, amount, 0, 0, 0)
     }
 }

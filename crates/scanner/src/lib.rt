@@ -1,4 +1,4 @@
-// "A small scanner holds the text and its place in it." Its two functions are thin: the work is `tokens::token_at`, on the slice and the number.
+// "A small scanner holds the text and its place in it." Its two methods are thin: the work is `tokens::token_at`, on the slice and the number.
 #![tactic(auto)]
 
 ghost use Rattle.std.specs.Prelude.{◌≡◌};
@@ -12,17 +12,19 @@ pub struct Scanner<'a> {
     pub place: usize,
 }
 
-pub fn new<'a>(text: &'a [u8]) -> Scanner<'a>
-    ensures { result ≡ at_start text.entry }
-{
-    Scanner { text, place: 0 }
-}
+impl<'a> Scanner<'a> {
+    pub fn new(text: &'a [u8]) -> Scanner<'a>
+        ensures { result ≡ at_start text.entry }
+    {
+        Scanner { text, place: 0 }
+    }
 
-// The token at the scanner's place, and the scanner goes past it.
-pub fn next<'s, 'a>(s: &'s mut Scanner<'a>) -> Token
-    ensures { (result ≡ found s.old) × (s.new ≡ past s.old) }
-{
-    let t = tokens::token_at(s.text, s.place);
-    s.place = t.end;
-    t
+    // The token at the scanner's place, and the scanner goes past it.
+    pub fn next(&mut self) -> Token
+        ensures { (result ≡ found self.old) × (self.new ≡ past self.old) }
+    {
+        let token = tokens::token_at(self.text, self.place);
+        self.place = token.end;
+        token
+    }
 }

@@ -5,16 +5,19 @@ use mathlib.Core.Path.{◌≡◌, refl, ap, ◌∙◌}
 use mathlib.Core.Bool.{Bool, true, false, cond, ◌&&◌}
 use mathlib.Core.List.{List}
 use native.Mathlib.Numerals.{add-one}
+use native.Mathlib.Decide.{dec_lt}
 use native.Mathlib.Omega.{arith}
-use borrow.Author.Tests.{lt-ltb, le-leb, leb-true}
+use borrow.Author.Tests.{lt-ltb, le-leb, leb-true, eq-eqb, ne_eqb}
 use lib.Dec.{leb}
 use lib.ListN.{length, set}
 use lib.Seq.{take-append_seam, get_or-set_same, get_or-set_other}
+use Rattle.std.specs.Prelude.{IfSome, None}
 use Rattle.rules.specs.declared.Ledger.{Ledger}
 use Rattle.rules.specs.WellFormed.{well_formed, Sized, Sound}
 use Rattle.rules.proofs.Facts.{both}
 use Rattle.rules.specs.declared.Opening.{Opening}
 use Rattle.rules.specs.declared.Request.{Request}
+use Rattle.laws.specs.Listed.{listed}
 use Rattle.laws.specs.Listing.{reached, batches}
 use Rattle.rules.specs.Opening.{opening, ledger_of}
 use Rattle.laws.proofs.Listed.{listed_lists}
@@ -24,38 +27,40 @@ use Rattle.rules.proofs.Record.{WF, rules, both_sound, sound, root_used}
 use Rattle.laws.proofs.Sheets.{every_sheet_once}
 use Rattle.sheet_order.specs.declared.Piece.{Piece}
 use Rattle.sheet_order.specs.declared.Pieces.{Pieces}
-use Rattle.sheet_order.specs.Row.{most, no_piece, row, empty, told, with_piece, with_all}
-use Rattle.sheet_order.specs.Order.{Readable, most_nodes, granted_to, sheets_of, root_pieces, small, in_order}
+use Rattle.sheet_order.specs.Row.{most, no_piece, row, empty, told, with_piece, with_all, kept}
+use Rattle.sheet_order.specs.Order.{Readable, most_nodes, granted_to, sheets_of, root_pieces, small, in_order, answered, history}
 use Rattle.sheet_order.specs.Demands.{ReadsListing, ReadsSmall, NotesGrant, ReadsEverySheet}
 use Rattle.sheet_order.proofs.Row.{filled}
 use Rattle.sheet_order.proofs.Order.{some_piece, sheets-listed}
 
 -- ---- the answer
 
-answered : (t : Bool) (ps : List Piece) → 0 < (cond t (row ps) empty).count → told (cond t (row ps) empty) ≡ ps
+told_row : (t : Bool) (ps : List Piece) → 0 < (cond t (row ps) empty).count → told (cond t (row ps) empty) ≡ ps
 unfolding row
-answered true ps h = take-append_seam ps _
-answered false ps h = absurd (omega arith)
+told_row true ps h = take-append_seam ps _
+told_row false ps h = absurd (omega arith)
 
 pub reads_listing : ReadsListing
 unfolding in_order
 reads_listing l g h =
-    ap sheets_of (answered (small l g && leb (length (root_pieces l g)) most) (root_pieces l g) h)
+    ap sheets_of (told_row (small l g && leb (length (root_pieces l g)) most) (root_pieces l g) h)
     ∙ sheets-listed l.used l (granted_to g.items g.count) 1
 
 module _ (l : Ledger) (g : Pieces) where
-  pub small_answer : {none all r : Pieces}
-      → small l g ≡ true
-      → none ≡ empty
-      → all ≡ with_all none (root_pieces l g)
-      → r ≡ cond (leb all.count most) all empty
-      → r ≡ in_order l g
-  unfolding in_order
-  small_answer e n a s = rw (e, s, a, n) (filled (root_pieces l g))
+  -- what the answer tells where there is one
+  pub answer_reads : IfSome (answered (in_order l g)) (λ r. sheets_of (told r) ≡ listed l.used l (history g) 1)
+  answer_reads = go (in_order l g) (dec_lt 0 (in_order l g).count) (reads_listing l g)
+    where
+      go : (r : Pieces)
+          → Dec (0 < r.count)
+          → (0 < r.count → sheets_of (told r) ≡ listed l.used l (history g) 1)
+          → IfSome (answered r) (λ r. sheets_of (told r) ≡ listed l.used l (history g) 1)
+      go r (yes h) reads = let ne : r.count ≢ 0 = λ z. omega arith in rw (ne_eqb r.count 0 ne) (reads h)
+      go r (no h) reads = rw (eq-eqb r.count 0 (omega arith)) tt
 
-  pub large_answer : small l g ≡ false → empty ≡ in_order l g
-  unfolding in_order
-  large_answer e = rw e
+  pub small_is : well_formed l ≡ true → l.used ≤ most_nodes → g.count ≤ most → small l g ≡ true
+  unfolding small
+  small_is e h k = rw (e, le-leb l.used most_nodes h, le-leb g.count most k)
 
   pub root_readable : Sized l → small l g ≡ true → Readable l g 1
   unfolding small
@@ -68,6 +73,16 @@ module _ (l : Ledger) (g : Pieces) where
         grants = leb-true g.count most k.1;
         used = root_used l (rules l s);
       }
+
+  pub small_answer : Sized l → small l g ≡ true → kept (with_all empty (root_pieces l g)) ≡ answered (in_order l g)
+  unfolding in_order
+  small_answer sized e =
+      let w = rules l (root_readable sized e).sound in
+      rw e (filled (root_pieces l g) (some_piece l (granted_to g.items g.count) w))
+
+  pub large_answer : small l g ≡ false → None ≡ answered (in_order l g)
+  unfolding in_order
+  large_answer e = rw e
 
 pub reads_small : ReadsSmall
 unfolding in_order row

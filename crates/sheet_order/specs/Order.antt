@@ -1,5 +1,5 @@
 -- The listing in pieces: the rules' listing, with who has each run of sheets and from which node.
-use Rattle.std.specs.Prelude.{ℕ, zero, suc, ◌+◌, ◌≤◌, Bool, cond, ◌&&◌, List, [], ◌∷◌, ◌++◌, map, eqb, leb, length, get_or}
+use Rattle.std.specs.Prelude.{ℕ, zero, suc, ◌+◌, ◌≤◌, Bool, Option, Some, None, cond, ◌&&◌, List, [], ◌∷◌, ◌++◌, map, eqb, leb, length, get_or}
 use Rattle.rules.specs.declared.Node.{Node}
 use Rattle.rules.specs.declared.Ledger.{Ledger}
 use Rattle.laws.specs.Listing.{Batch, sheets}
@@ -67,6 +67,10 @@ small l g = well_formed l && (leb l.used most_nodes && leb g.count most)
 -- the root's listing as a row, where all is small enough, and else an empty row
 unfoldable pub in_order : Ledger → Pieces → Pieces
 in_order l g = cond (small l g && leb (length (root_pieces l g)) most) (row (root_pieces l g)) empty
+
+-- the row as an answer: an empty row is none, since a listing that fits has pieces
+abbrev pub answered : Pieces → Option Pieces
+answered g = cond (eqb g.count 0) None (Some g)
 
 -- ---- what the code's parts ask: node n is in use, in a well-formed ledger
 

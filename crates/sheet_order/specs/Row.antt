@@ -1,5 +1,5 @@
 -- A row of so many pieces: an array that is filled from its front.
-use Rattle.std.specs.Prelude.{ℕ, ◌+◌, ◌-◌, cond, List, [], ◌∷◌, ◌++◌, ltb, length, take, set, replicate}
+use Rattle.std.specs.Prelude.{ℕ, ◌+◌, ◌-◌, cond, List, [], ◌∷◌, ◌++◌, leb, ltb, Option, Some, None, length, take, set, replicate}
 use Rattle.sheet_order.specs.declared.Piece.{Piece}
 use Rattle.sheet_order.specs.declared.Pieces.{Pieces}
 
@@ -33,3 +33,7 @@ with_piece g p =
 unfoldable pub with_all : Pieces → List Piece → Pieces
 with_all g [] = g
 with_all g (p ∷ ps) = with_all (with_piece g p) ps
+
+-- the row as an answer: none where a piece found no room
+abbrev pub kept : Pieces → Option Pieces
+kept g = cond (leb g.count most) (Some g) None

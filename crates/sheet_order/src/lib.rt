@@ -1,18 +1,18 @@
 // The listing of a ledger's root, computed for small examples: who has which sheets, in the order in which the rules list them.
 #![tactic(auto)]
 
-ghost use Rattle.std.specs.Prelude.{◌≡◌, cond, ◌∷◌, [], ◌<◌, ◌≤◌, eqb, leb, replicate};
+ghost use Rattle.std.specs.Prelude.{◌≡◌, ◌≤◌, IfSome, replicate};
 ghost use Rattle.laws.specs.Listed.{listed};
-ghost use Rattle.sheet_order.specs.Row.{most, no_piece, empty, with_piece, with_all, told};
-ghost use Rattle.sheet_order.specs.Order.{Readable, history, sheets_of, from_node, granted_to, pieces, in_order};
+ghost use Rattle.sheet_order.specs.Row.{most, no_piece, empty, with_piece, with_all, told, kept};
+ghost use Rattle.sheet_order.specs.Order.{Readable, history, sheets_of, from_node, granted_to, pieces, in_order, answered};
 
 use rules::Ledger;
 
-// The most nodes of a ledger that is small enough: each call of `with_node` inside another holds a ledger of its own.
+// The most nodes of a ledger that is small enough: each call of `with_node` inside another holds a row of its own.
 const NODES: u32 = 31;
 
 // The sheets from..to of a node, granted to a team; unclaimed ones where the team is 0.
-#[derive(Clone, Copy)]
+#[derive(Clone, Copy, Debug, PartialEq, Eq)]
 pub struct Piece {
     pub team: u32,
     pub node: u32,
@@ -20,28 +20,11 @@ pub struct Piece {
     pub to: u32,
 }
 
-// A row of pieces. A count of one past the most says that there were more.
+// A row of pieces: the first `count` of the items.
 #[derive(Clone, Copy)]
 pub struct Pieces {
     pub count: usize,
     pub items: [Piece; Pieces::MOST],
-}
-
-fn no_piece() -> Piece
-    ensures { result ≡ no_piece }
-{
-    Piece {
-        team: 0,
-        node: 0,
-        from: 0,
-        to: 0,
-    }
-}
-
-fn no_items() -> [Piece; Pieces::MOST]
-    ensures { result ≡ replicate most no_piece }
-{
-    [no_piece(); Pieces::MOST]
 }
 
 impl Pieces {
@@ -51,101 +34,76 @@ impl Pieces {
     pub fn none() -> Pieces
         ensures { result ≡ empty }
     {
-        let items = no_items();
+        let no_piece = Piece {
+            team: 0,
+            node: 0,
+            from: 0,
+            to: 0,
+        };
         Pieces {
             count: 0,
-            items: items,
+            items: [no_piece; Pieces::MOST],
         }
     }
 
-    // The row with a piece more at its end.
+    // The row with a piece more at its end, where it has room.
     #[tactic(auto, unfolding(crate::specs::Row::with_piece))]
-    pub fn with(self, p: Piece) -> Pieces
-        ensures { result ≡ with_piece self p }
+    pub fn with(mut self, p: Piece) -> Option<Pieces>
+        ensures { result ≡ kept (with_piece self p) }
     {
-        let mut row = self;
-        if row.count < Pieces::MOST {
-            let slot = row.count;
-            row.items[slot] = p;
-            row.count = row.count + 1;
-            return row;
+        if self.count >= Pieces::MOST {
+            return None;
         }
-        row.count = Pieces::MOST + 1;
-        row
+        self.items[self.count] = p;
+        self.count += 1;
+        Some(self)
     }
-}
-
-// The row with p at its end, where p is of node n.
-#[tactic(auto, using(crate::proofs::Row::with_all_one, crate::proofs::Row::with_all_none))]
-fn with_own(row: Pieces, p: Piece, n: u32) -> Pieces
-    ensures { result ≡ with_all row (cond (eqb p.node n) (p ∷ []) []) }
-{
-    if p.node == n { row.with(p) } else { row }
 }
 
 // What was granted from node n, in the order in which it was granted, at the row's end.
-#[tactic(auto, using(crate::proofs::Order::granted_none, crate::proofs::Order::granted_more))]
-fn with_granted(row: Pieces, granted: Pieces, n: u32) -> Pieces
-    requires { granted.count ≤ most }
-    ensures { result ≡ with_all row (from_node (granted_to granted.items granted.count) n) }
+fn with_granted(mut row: Pieces, granted: &Pieces, n: u32) -> Option<Pieces>
+    requires { (row.count ≤ most) × (granted.now.count ≤ most) }
+    ensures { result ≡ kept (with_all row (from_node (granted_to granted.now.items granted.now.count) n)) }
 {
-    let mut out = row;
-    let mut i = 0;
-    while i < granted.count {
-        let p = granted.items[i];
-        out = with_own(out, p, n);
-        i += 1;
+    for p in &granted.items[..granted.count] {
+        if p.node == n {
+            row = row.with(*p)?;
+        }
     }
-    out
+    Some(row)
 }
 
 // The pieces of node n, at the row's end: what was granted, then the children's pieces from left to right, or else what is unclaimed.
-fn with_node(row: Pieces, depth: u32, l: Ledger, granted: Pieces, n: u32) -> Pieces
-    requires { Readable l granted n }
-    ensures { result ≡ with_all row (pieces depth l (granted_to granted.items granted.count) n) }
+fn with_node(row: Pieces, depth: u32, l: &Ledger, granted: &Pieces, n: u32) -> Option<Pieces>
+    requires room { row.count ≤ most }
+    requires readable { Readable l.now granted.now n }
+    ensures { result ≡ kept (with_all row (pieces depth l.now (granted_to granted.now.items granted.now.count) n)) }
 {
     if depth == 0 {
-        return row;
+        return Some(row);
     }
-    let slot = (n - 1) as usize;
-    let x = l.nodes[slot];
-    let own = with_granted(row, granted, n);
+    let x = forms::node_at(l, n as usize);
+    let own = with_granted(row, granted, n)?;
     if nodes::is_childless(x) {
-        let from = nodes::position_of(x);
         return own.with(Piece {
             team: 0,
             node: n,
-            from: from,
+            from: nodes::position_of(x),
             to: x.until,
         });
     }
-    let left = x.left;
-    let right = left + 1;
-    let then = with_node(own, depth - 1, l, granted, left);
-    with_node(then, depth - 1, l, granted, right)
+    let then = with_node(own, depth - 1, l, granted, x.left)?;
+    with_node(then, depth - 1, l, granted, x.left + 1)
 }
 
-// A row that found no room for a piece is none.
-fn settled(row: Pieces) -> Pieces
-    ensures { result ≡ cond (leb row.count most) row empty }
+// The root's listing, where `granted` is what was granted so far, oldest first. There is none where the ledger is not well formed or has over
+// 31 nodes, and where over 32 pieces were granted or make the listing.
+pub fn in_order(l: Ledger, granted: Pieces) -> Option<Pieces>
+    ensures value { result ≡ answered (in_order l granted) }
+    ensures listing { IfSome result (λ r. sheets_of (told r) ≡ listed l.used l (history granted) 1) }
 {
-    if row.count <= Pieces::MOST {
-        row
-    } else {
-        Pieces::none()
+    if !forms::well_formed(l) || l.used > NODES || granted.count > Pieces::MOST {
+        return None;
     }
-}
-
-// The root's listing, where `granted` is what was granted so far, oldest first. The row is empty, and so refused, where the ledger is not
-// well formed or has over 31 nodes, and where over 32 pieces were granted or make the listing.
-#[tactic(auto, using(forms::proofs::Laws::length_under, crate::proofs::Demands::reads_listing, crate::proofs::Demands::small_answer, crate::proofs::Demands::large_answer, crate::proofs::Demands::root_readable), unfolding(crate::specs::Order::small))]
-pub fn in_order(l: Ledger, granted: Pieces) -> Pieces
-    ensures value { result ≡ in_order l granted }
-    ensures listing { 0 < result.count → sheets_of (told result) ≡ listed l.used l (history granted) 1 }
-{
-    let small = (l.used <= NODES) & (granted.count <= Pieces::MOST);
-    if forms::well_formed(l) & small {
-        return settled(with_node(Pieces::none(), l.used, l, granted, 1));
-    }
-    Pieces::none()
+    with_node(Pieces::none(), l.used, &l, &granted, 1)
 }

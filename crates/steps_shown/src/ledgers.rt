@@ -1,52 +1,34 @@
 // Ledgers of two teams to step on. The root has 0..8; team 1 takes it, and team 2 steals from it.
-use rules::{Ledger, Opening, Request};
+use rules::Ledger;
+use shown::asks::{advance, expand, mark, own};
+use shown::tables;
+use shown::tables::after;
 
 pub(crate) fn opened(nodes: i32) -> Ledger {
-    let o = ledger::open(Opening {
-        start: 0,
-        until: 8,
-        teams: 2,
-        cap: 4,
-        nodes: nodes,
-    });
-    o.ledger
-}
-
-fn after(l: Ledger, kind: u32, team: i32, node: i32, position: i32, amount: i32) -> Ledger {
-    let k = numbers::to_signed(kind);
-    let r = Request::new(k, team, node, position, amount, 0, 0, 0);
-    let x = ledger::request(l, r);
-    x.ledger
+    tables::opened(0, 8, 2, nodes)
 }
 
 // Team 1 owns the root.
 pub(crate) fn owned(nodes: i32) -> Ledger {
-    after(opened(nodes), Request::OWN, 1, 1, 0, 0)
+    after(opened(nodes), &[own(1, 1)])
 }
 
 // And has claimed this many of its sheets.
 pub(crate) fn claimed(nodes: i32, sheets: i32) -> Ledger {
-    after(owned(nodes), Request::ADVANCE, 1, 1, 0, sheets)
+    after(owned(nodes), &[advance(1, 1, 0, sheets)])
 }
 
 // Team 2 has marked it at 2.
 pub(crate) fn stolen() -> Ledger {
-    after(claimed(7, 2), Request::MARK, 2, 1, 2, 0)
+    after(claimed(7, 2), &[mark(2, 1, 2)])
 }
 
 // Team 2 has marked it at its last sheet, and split it in 7..7 and 7..8.
 pub(crate) fn last_split() -> Ledger {
-    after(
-        after(claimed(7, 7), Request::MARK, 2, 1, 7, 0),
-        Request::EXPAND,
-        2,
-        1,
-        0,
-        0,
-    )
+    after(claimed(7, 7), &[mark(2, 1, 7), expand(2, 1)])
 }
 
 // The one marked at 2 is split in 2..5 and 5..8.
 pub(crate) fn expanded() -> Ledger {
-    after(stolen(), Request::EXPAND, 2, 1, 0, 0)
+    after(stolen(), &[expand(2, 1)])
 }

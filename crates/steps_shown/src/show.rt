@@ -1,92 +1,73 @@
-// Prints records and steps: place, node, position, side and size of a record, and by program 2 what it remembers; kind and node of a step's request, and the six numbers of its answer.
+// The parts of a line: a record, which by program 2 ends in what it remembers, and a step's request with its answer.
 use rules::Answer;
-use std::io;
+use shown::Shown;
+use std::fmt;
 use steps::{Memory, Place, Program, Side, Team};
 
-fn number(rt: &impl Print, n: u32) -> io::Result<()> {
-    print!(rt; " {n}")
-}
-
-fn signed(rt: &impl Print, p: i32) -> io::Result<()> {
-    print!(rt; " {p}")
-}
-
-fn place(rt: &impl Print, p: Place) -> io::Result<()> {
-    match p {
-        Place::Seek => words(rt, " seek"),
-        Place::Take => words(rt, " take"),
-        Place::Work => words(rt, " work"),
-        Place::Claim => words(rt, " claim"),
-        Place::Mark => words(rt, " mark"),
-        Place::Split => words(rt, " split"),
-        Place::Stopped => words(rt, " stopped"),
+fn place(place: Place) -> &'static str {
+    match place {
+        Place::Seek => "seek",
+        Place::Take => "take",
+        Place::Work => "work",
+        Place::Claim => "claim",
+        Place::Mark => "mark",
+        Place::Split => "split",
+        Place::Stopped => "stopped",
     }
 }
 
-fn side(rt: &impl Print, d: Side) -> io::Result<()> {
-    match d {
-        Side::Left => words(rt, " left"),
-        Side::Right => words(rt, " right"),
+fn side(side: Side) -> &'static str {
+    match side {
+        Side::Left => "left",
+        Side::Right => "right",
     }
 }
 
-pub(crate) fn record(rt: &impl Print, t: Team) -> io::Result<()> {
-    place(rt, t.place)?;
-    number(rt, t.node)?;
-    signed(rt, t.position)?;
-    side(rt, t.side)?;
-    number(rt, t.size)?;
-    match t.program {
-        Program::Scan => Ok(()),
-        Program::Greatest => memory(rt, t.memory),
-    }
-}
+// Place, node, position, side and size, and what the record remembers.
+#[derive(Clone, Copy)]
+pub(crate) struct Record(pub(crate) Team);
 
-fn memory(rt: &impl Print, m: Memory) -> io::Result<()> {
-    match m {
-        Memory::Nothing => words(rt, " remembers nothing"),
-        Memory::Free(n, rest) => {
-            words(rt, " remembers free")?;
-            number(rt, n)?;
-            number(rt, rest)
-        }
-        Memory::Held(n, rest, p) => {
-            words(rt, " remembers held")?;
-            number(rt, n)?;
-            number(rt, rest)?;
-            number(rt, p)
+impl fmt::Display for Record {
+    fn fmt<W: fmt::Write>(&self, f: &mut fmt::Formatter<W>) -> fmt::Result {
+        let t = self.0;
+        let place = place(t.place);
+        let side = side(t.side);
+        write!(f, "{place} {} {} {side} {}", t.node, t.position, t.size)?;
+        match (t.program, t.memory) {
+            (Program::Scan, _) => Ok(()),
+            (Program::Greatest, Memory::Nothing) => f.write_str(" remembers nothing"),
+            (Program::Greatest, Memory::Free { node, rest }) => {
+                write!(f, " remembers free {node} {rest}")
+            }
+            (
+                Program::Greatest,
+                Memory::Held {
+                    node,
+                    rest,
+                    position,
+                },
+            ) => { write!(f, " remembers held {node} {rest} {position}") }
         }
     }
 }
 
-pub(crate) fn asked(rt: &impl Print, team: i32, kind: u32, node: u32, a: Answer) -> io::Result<()> {
-    words(rt, "team")?;
-    signed(rt, team)?;
-    words(rt, " asks")?;
-    number(rt, kind)?;
-    number(rt, node)?;
-    words(rt, " gets")?;
-    number(rt, a.code)?;
-    number(rt, a.state)?;
-    number(rt, a.from)?;
-    number(rt, a.to)?;
-    number(rt, a.owner)?;
-    number(rt, a.left)
+// The kind and node of the request that a team's step makes, and the six numbers of its answer.
+#[derive(Clone, Copy)]
+pub(crate) struct Asked {
+    pub(crate) team: i32,
+    pub(crate) kind: u32,
+    pub(crate) node: u32,
+    pub(crate) answer: Answer,
 }
 
-pub(crate) fn capped(rt: &impl Print, cap: i32) -> io::Result<()> {
-    words(rt, " cap")?;
-    signed(rt, cap)
-}
-
-pub(crate) fn bar(rt: &impl Print) -> io::Result<()> {
-    words(rt, " |")
-}
-
-pub(crate) fn words(rt: &impl Print, text: &str) -> io::Result<()> {
-    print!(rt; "{text}")
-}
-
-pub(crate) fn end(rt: &impl Print) -> io::Result<()> {
-    words(rt, "\n")
+impl fmt::Display for Asked {
+    fn fmt<W: fmt::Write>(&self, f: &mut fmt::Formatter<W>) -> fmt::Result {
+        let Asked {
+            team,
+            kind,
+            node,
+            answer,
+        } = *self;
+        write!(f, "team {team} asks {kind} {node} gets {}", Shown(answer))
+    }
 }

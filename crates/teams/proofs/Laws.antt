@@ -1,23 +1,20 @@
 -- What the code of a step needs of the definitions, over plain variables.
-use mathlib.Core.Path.{◌≡◌, refl, ◌∙◌}
+use mathlib.Core.Path.{◌≡◌, refl}
 use mathlib.Core.Logic.{◌≢◌}
-use mathlib.Core.Bool.{Bool, true, false, cond, not, ◌||◌, true≢false}
+use mathlib.Core.Bool.{Bool, true, false, cond, ◌||◌, true≢false}
 use mathlib.Core.List.{List}
 use Prim.Native.Nat.{ℕ, ◌≤◌, ◌<◌}
 use native.Mathlib.Omega.{arith}
-use native.Mathlib.Decide.{ℕ_discrete, dec_le, dec_lt}
+use native.Mathlib.Decide.{dec_le, dec_lt}
 use lib.Dec.{T, eqb}
 use lib.IntN.{ℤ, pos}
-use borrow.Author.Tests.{eqb-true, eq-eqb, ne_eqb, not-false}
+use borrow.Author.Tests.{ne_eqb, not-false}
 use Rattle.numbers.specs.Fields.{within, nat_of}
 use Rattle.numbers.proofs.Laws.{within_true}
 use Rattle.rules.specs.declared.Ledger.{Ledger}
 use Rattle.rules.specs.declared.Request.{Request}
-use Rattle.rules.specs.declared.Answer.{Answer}
-use Rattle.rules.specs.declared.Answered.{Answered}
 use Rattle.rules.specs.declared.View.{View}
 use Rattle.rules.specs.declared.Outcome.{Outcome}
-use Rattle.rules.specs.declared.Change.{Change}
 use Rattle.rules.specs.declared.Change.TheVariants.{Keep}
 use Rattle.rules.specs.Limits.{max_teams, max_cap}
 use Rattle.rules.specs.Refusals.{all_tests, own_tests, advance_tests, mark_tests, expand_tests, report_tests, push_tests, own_code, advance_code, mark_code, expand_code, report_code, push_code, kind_code, refusal}
@@ -31,11 +28,10 @@ use Rattle.rules.proofs.Record.{WF, rules, both_sound, used_high}
 use Rattle.rules.proofs.Spare.{spare}
 use Rattle.rules.proofs.Tests.{lacks, passed_to, passed, each_kind}
 use Rattle.steps.specs.declared.Team.{Team}
-use Rattle.steps.specs.declared.Stepped.{Stepped}
 use Rattle.steps.specs.Records.{max_node, is_stopped}
-use Rattle.steps.specs.Step.{unmoved, step_from, step_at, unfit, later_tests, solo_code, step_unless, solo_step}
-use Rattle.steps.specs.Turn.{asks, still, turned}
-use Rattle.places.specs.Clipped.{clipped_asks, clipped_moves, Limited}
+use Rattle.steps.specs.Step.{step_from, step_at, unfit, later_tests, solo_code, step_unless, solo_step}
+use Rattle.steps.specs.Turn.{asks, turned}
+use Rattle.places.specs.Clipped.{clipped_asks, Limited}
 use Rattle.places.proofs.Laws.{unclipped_asks, unclipped_moves}
 use Rattle.teams.specs.Clipped.{heard, with_ledger, clipped_turn, clipped_step, Ready, UnclippedTurn}
 
@@ -147,39 +143,7 @@ not_one v q = refused_or (eqb (refusal v q) 0)
         (omega arith))
     refused_or false = never_one v q
 
--- ---- what was heard
-
-pub hear_made : (number cap : ℕ) (r : Team) (q : Request) (a : Answer) (c : Change) {m : Team} {kind node : ℕ}
-    → m ≡ clipped_moves number cap r a
-    → kind ≡ nat_of q.kind
-    → node ≡ nat_of q.node
-    → record { team = m; kind = kind; node = node; answer = a; change = c } ≡ heard number cap r q a c
-unfolding heard
-hear_made number cap r q a c moved k n = rw (moved, k, n)
-
-pub ask_made : (number cap : ℕ) (l : Ledger) (r : Team) {q : Request} {d : Answered} {x : Stepped} (b : Bool)
-    → q ≡ clipped_asks number r
-    → d ≡ requested l q
-    → eqb d.answer.code 1 ≡ b
-    → x ≡ cond b (unmoved 1 l r) (with_ledger d.ledger (heard number cap r q d.answer Keep))
-    → x ≡ clipped_step number cap l r
-unfolding clipped_step
-ask_made number cap l r {q} {d} b asked done e is = is ∙ rw (← asked, ← done, e)
-
--- ---- a turn
-
-module _ (number cap : ℕ) (r : Team) (v : View) where
-  pub turn_rests : is_stopped r.place ≡ true → still r ≡ clipped_turn number cap r v
-  unfolding clipped_turn
-  turn_rests e = rw e
-
-  pub turn_made : {q : Request} {o : Outcome}
-      → is_stopped r.place ≡ false
-      → q ≡ clipped_asks number r
-      → o ≡ decided v q
-      → heard number cap r q o.answer o.change ≡ clipped_turn number cap r v
-  unfolding clipped_turn
-  turn_made going asked done = rw (going, done, asked)
+-- ---- a turn within the limits
 
 pub unclipped_turn : UnclippedTurn
 unfolding clipped_turn turned heard
@@ -205,13 +169,6 @@ fit_limits number cap r small e =
 
 -- ---- a step
 
--- by the test that its code makes
-pub rests_by : (k : ℕ) (stopped : Bool) → (not (eqb k 0) || stopped) ≡ true → k ≡ 0 → stopped ≡ true
-rests_by k stopped e z = rw (eq-eqb k 0 z) at e
-
-pub goes_by : (k : ℕ) (stopped : Bool) → (not (eqb k 0) || stopped) ≡ false → (k ≡ 0) × (stopped ≡ false)
-goes_by k stopped e = let h = neither (not (eqb k 0)) stopped e in (eqb-true k 0 (not-false (eqb k 0) h.0), h.1)
-
 module _ (l : Ledger) (number cap : ℤ) (r : Team) where
   abbrev t : ℕ
   t = nat_of number
@@ -219,20 +176,7 @@ module _ (l : Ledger) (number cap : ℤ) (r : Team) where
   abbrev later : ℕ
   later = first (later_tests l.teams number cap r) 0
 
-  -- none is made where a test holds, or the team has stopped
-  pub step_rests : (later ≡ 0 → is_stopped r.place ≡ true) → unmoved (cond (not (well_formed l)) 1 later) l r ≡ solo_step l number cap r
-  unfolding solo_step solo_code step_unless step_from
-  step_rests stopped = go (well_formed l) (ℕ_discrete later 0)
-    where
-      v : Bool → ℕ → Stepped
-      v b c = cond (eqb (cond (not b) 1 c) 0) (step_at t (nat_of cap) l r) (unmoved (cond (not b) 1 c) l r)
-
-      go : (b : Bool) → Dec (later ≡ 0) → unmoved (cond (not b) 1 later) l r ≡ v b later
-      go false d = refl
-      go true (yes e) = rw (e, stopped e)
-      go true (no ne) = rw (ne_eqb later 0 ne)
-
-  -- else the request is made; on a ledger that is not well formed its code is 1
+  -- the request is made; on a ledger that is not well formed its code is 1
   module _ (sized : Sized l) (passes : later ≡ 0) (going : is_stopped r.place ≡ false) where
     abbrev q : Request
     q = clipped_asks t r

@@ -1,38 +1,36 @@
 -- The judgement put together: what the passes found is what the definitions say.
 use mathlib.Core.Path.{◌≡◌, refl, sym, ap, ◌∙◌}
-use mathlib.Core.Bool.{Bool, true, false, cond, not, ◌&&◌, true≢false}
+use mathlib.Core.Bool.{not, Bool, true, false, cond, ◌&&◌, ◌||◌}
 use mathlib.Core.List.{List, ◌++◌, map}
-use Prim.Native.Nat.{ℕ, ◌+◌, ◌-◌, ◌≤◌, ◌<◌}
+use Prim.Native.Nat.{ℕ, ◌+◌, ◌≤◌, ◌<◌}
 use native.Mathlib.Omega.{arith}
-use lib.Dec.{eqb, ltb}
-use lib.ListN.{length, take, drop, length-append, length-map}
+use lib.Dec.{eqb, leb, ltb}
+use lib.ListN.{length, take, drop, length-map, get_or-eq_default}
 use lib.Seq.{take_at}
 use lib.IntN.{ℤ}
-use borrow.Author.Tests.{lt-ltb, le-ltb, eqb-true}
+use borrow.Author.Tests.{ltb-false, lt-ltb, le-ltb, ne_eqb, leb-true}
+use Rattle.std.specs.Prelude.{Option, None, Some, Ok, Err}
 use Rattle.numbers.specs.Fields.{nat_of}
 use Rattle.numbers.specs.Progress.{signed}
-use Rattle.rules.specs.declared.Opening.{Opening}
 use Rattle.rules.specs.Limits.{opens}
-use Rattle.text_rules.specs.declared.Verdict.{Verdict}
-use Rattle.text.specs.declared.Head.{Head}
+use Rattle.rules.specs.Refused.{code_of}
+use Rattle.rules.specs.declared.refusal.Refusal.{Refusal}
+use Rattle.rules.specs.declared.refusal.Refusal.TheVariants as refusal
+use Rattle.rules.specs.declared.Opening.{Opening}
+use Rattle.text_rules.specs.declared.Refused.{Refused}
+use Rattle.text.specs.declared.Spot.{Spot}
 use Rattle.text.specs.declared.Row.{Row}
 use Rattle.text.specs.declared.Tally.{Tally}
-use Rattle.text.specs.declared.Survey.{Survey}
 use Rattle.text.specs.declared.Heading.{Heading}
 use Rattle.text_rules.specs.Marks.{Mark, marks}
-use Rattle.text_rules.specs.Lines.{head_line, from_head, line_numbers, after_line, left_after}
-use Rattle.text_rules.specs.Judgement.{max_bytes, is_header, ruled, granted, is_granted, given, fault_from, opening_of, program_in, program_good, head_of, head_verdict, header_verdict, schedule_marks, schedule_numbers, body_verdict, schedule_verdict}
-use Rattle.text_rules.specs.Answers.{no_opening, rest_place, filled, schedule_of, area_of}
-use Rattle.text_rules.proofs.Granted.{granted_first, header_granted, Granted, granted_is}
-use Rattle.text.specs.Passes.{FoundHead, FoundRow, tally_of, FoundSurvey, refused_heading, heading_by, FoundHeading}
+use Rattle.text_rules.specs.Lines.{line_numbers, after_line}
+use Rattle.text_rules.specs.Judgement.{Verdict, max_bytes, header_least, is_header, ruled, granted, given, fault_from, opening_of, program_in, may_name, is_program, head_good, head_of, head_verdict, header_verdict, schedule_marks, schedule_numbers, teams_of, stranger_line, body_verdict, schedule_verdict}
+use Rattle.text_rules.specs.Answers.{no_opening, verdict_of, told_program, header_of, rest_place, schedule_of, area_of}
+use Rattle.text.specs.Passes.{IsLine, HeadAt, WholeRow, WholeNumbers, named, WholeHeading, judged_by, judged}
 
--- ---- tests
-
--- the later tests count only where the earlier ones grant
-later_tests : (b : Bool) (v x y : Verdict) → is_granted v ≡ b → (is_granted v ≡ true → x ≡ y) → given (not b) v x ≡ given (not b) v y
-unfolding given
-later_tests true v x y e h = h e
-later_tests false v x y e h = refl
+-- a refusal grants nothing
+refusing : (r : Refusal) → eqb (code_of r) 0 ≡ false
+refusing r = grind arith
 
 -- ---- the header
 
@@ -40,142 +38,176 @@ pub long_verdict : (n : ℕ) (ms : List Mark) → max_bytes < n → ruled 21 0 �
 unfolding header_verdict given
 long_verdict n ms h = rw (lt-ltb max_bytes n h)
 
-short_verdict : (n : ℕ) (ms : List Mark) → n ≤ max_bytes → header_verdict n ms ≡ given (not (is_granted (fault_from 1 ms))) (fault_from 1 ms) (head_verdict ms)
+-- a byte with 22 or 23 is answered first
+pub faulty : (n : ℕ) (ms : List Mark) (e : Refused) → n ≤ max_bytes → verdict_of e ≡ fault_from 1 ms → verdict_of e ≡ header_verdict n ms
 unfolding header_verdict given
-short_verdict n ms h = rw (le-ltb max_bytes n h)
+faulty n ms e h is = rw (le-ltb max_bytes n h, ← is, refusing e.refusal)
 
-pub refused_heading_lem : (text : List ℕ) (kept later : List ℤ) (v : Verdict) → v ≡ header_verdict (length text) (marks text) → is_granted v ≡ false → FoundHeading text kept (refused_heading v (length text)) later
-unfolding rest_place
-refused_heading_lem text kept later v e g =
-    record {
-      verdict = e;
-      opening = rw g;
-      program = rw g;
-      end = rw (← e, g);
-      within = omega arith;
-      tally = λ h. absurd (true≢false (sym h ∙ g));
-      keeps = λ h. absurd (true≢false (sym h ∙ g));
-    }
+may_named : (t : Bool) (p : ℕ) → may_name (cond t None (Some p)) ≡ (t || is_program p)
+may_named true p = refl
+may_named false p = refl
 
--- what the passes tell of a text with these marks, where no byte has 22 or 23
-record Told (text : List ℕ) (ms : List Mark) (teams : ℕ) (head : Head) (row : Row) (survey : Survey) (kept later : List ℤ) : Type 0 where
-  line : head.line ≡ head_line 1 ms
-  count : row.count ≡ length (head_of ms)
-  opening : opening_of row.first ≡ opening_of (head_of ms)
-  program : program_in row.first ≡ program_in (head_of ms)
-  end : row.end ≡ length text - left_after (from_head ms)
-  tally : survey.tally ≡ tally_of teams (head_line 1 ms + 1) (schedule_marks ms)
-  keeps : later ≡ filled (schedule_numbers ms) kept
+named_by : (t : Bool) (count : ℕ) (first ns : List ℕ) → leb count header_least ≡ t → count ≡ length ns → program_in first ≡ program_in ns → told_program (cond t None (Some (program_in first))) ≡ program_in ns
+named_by true count first ns e c p = sym (get_or-eq_default ns 0 (rw c at (leb-true count header_least e)))
+named_by false count first ns e c p = p
 
-module _ (text : List ℕ) (teams : ℕ) (head : Head) (row : Row) (kept : List ℤ) (survey : Survey) (later : List ℤ) (f : FoundHead text head) (r : FoundRow text head.place row) (s : FoundSurvey text row.end (head.line + 1) teams kept survey later) where
-  -- the earliest byte with 22 or 23 is in the row or after it
-  found_fault : given (not (eqb row.fault 0)) (ruled row.fault head.line) survey.fault ≡ fault_from 1 (marks text)
-  found_fault = rw s.fault (r.fault head.line ∙ f.fault)
+module _ (text : List ℕ) (h : length text ≤ max_bytes) (head : Spot) (f : HeadAt text head) where
+  abbrev ms : List Mark
+  ms = marks text
 
-  all_told : is_granted (fault_from 1 (marks text)) ≡ true → Told text (marks text) teams head row survey kept later
-  all_told g =
-      let ok = granted_first (eqb row.fault 0) (ruled row.fault head.line) survey.fault refl (rw found_fault g) in
-      let w = r.whole (eqb-true row.fault 0 ok.0) in
-      let there : marks (drop row.end text) ≡ schedule_marks (marks text) = w.there ∙ ap after_line (f.there g) in
-      record {
-        line = f.line g;
-        count = w.count ∙ ap (λ (ms : List Mark). length (line_numbers ms)) (f.there g);
-        opening = w.first ∙ ap (λ (ms : List Mark). opening_of (line_numbers ms)) (f.there g);
-        program = w.program ∙ ap (λ (ms : List Mark). program_in (line_numbers ms)) (f.there g);
-        end = w.end ∙ ap (λ (ms : List Mark). length text - left_after ms) (f.there g);
-        tally = s.tally ok.1 ∙ rw (f.line g, there);
-        keeps = s.keeps ok.1 ∙ rw there;
-      }
+  pub faulty_row : (e : Refused) → verdict_of e ≡ fault_from head.line (marks (drop head.place text)) → verdict_of e ≡ header_verdict (length text) ms
+  faulty_row e is = faulty (length text) ms e h (is ∙ f.fault)
 
-  -- the verdict of the straight-line tests, by what each pass found
-  pub found_verdict : length text ≤ max_bytes → (o : Opening) (program : ℕ) (opened named whole : Bool) (limits numbers fault v : Verdict)
-      → o ≡ opening_of row.first
-      → program ≡ program_in row.first
-      → opened ≡ opens o
-      → named ≡ program_good row.count program
-      → limits ≡ given (not (opened && named)) (ruled 20 head.line) granted
-      → whole ≡ is_header row.count
-      → numbers ≡ given (not whole) (ruled 24 head.line) limits
-      → fault ≡ given (not (eqb row.fault 0)) (ruled row.fault head.line) survey.fault
-      → v ≡ given (not (is_granted fault)) fault numbers
-      → v ≡ header_verdict (length text) (marks text)
-  unfolding head_verdict
-  found_verdict h o program opened named whole limits numbers fault v p q d n l w c e is =
-      is
-      ∙ rw
-      (short_verdict (length text) (marks text) h, e, found_fault, c, w, l, d, n, p, q)
-      (later_tests (is_granted (fault_from 1 (marks text))) (fault_from 1 (marks text)) _ (head_verdict (marks text)) refl (λ g. let t = all_told g in rw (t.line, t.count, t.opening, t.program)))
+  module _ (row : Row) (r : WholeRow text head row) where
+    pub faulty_body : (e : Refused) → verdict_of e ≡ fault_from (head.line + 1) (marks (drop row.end text)) → verdict_of e ≡ header_verdict (length text) ms
+    faulty_body e is = faulty_row e (is ∙ r.fault)
 
-  heading_by_lem : (b : Bool) (v : Verdict) (o : Opening) (program : ℕ) → o ≡ opening_of row.first → program ≡ program_in row.first → teams ≡ nat_of o.teams → v ≡ header_verdict (length text) (marks text) → is_granted v ≡ b → FoundHeading text kept (cond b (record { verdict = v; opening = o; program = program; tally = survey.tally; end = row.end }) (refused_heading v (length text))) later
-  unfolding rest_place
-  heading_by_lem false v o program p n q e g = refused_heading_lem text kept later v e g
-  heading_by_lem true v o program p n q e g =
-      let t = all_told (header_granted (length text) (marks text) (rw (← e) g)).faultless in
-      let opening : o ≡ opening_of (head_of (marks text)) = p ∙ t.opening in
-      record {
-        verdict = e;
-        opening = rw g opening;
-        program = rw g (n ∙ t.program);
-        end = rw (← e, g) t.end;
-        within = r.within;
-        tally = λ _. t.tally ∙ rw (q, opening);
-        keeps = λ _. t.keeps;
-      }
+    count_told : row.count ≡ length (head_of ms)
+    count_told = r.count ∙ ap (λ (ms : List Mark). length (line_numbers ms)) f.there
 
-  pub found_heading : (v : Verdict) (o : Opening) (program : ℕ) → o ≡ opening_of row.first → program ≡ program_in row.first → teams ≡ nat_of o.teams → v ≡ header_verdict (length text) (marks text) → FoundHeading text kept (heading_by (record { verdict = v; opening = o; program = program; tally = survey.tally; end = row.end }) (length text)) later
-  found_heading v o program p n q e = heading_by_lem (is_granted v) v o program p n q e refl
+    opening_told : opening_of row.first ≡ opening_of (head_of ms)
+    opening_told = r.first ∙ ap (λ (ms : List Mark). opening_of (line_numbers ms)) f.there
+
+    program_told : program_in row.first ≡ program_in (head_of ms)
+    program_told = r.program ∙ ap (λ (ms : List Mark). program_in (line_numbers ms)) f.there
+
+    good_told : (o : Opening) (p : Option ℕ) → o ≡ opening_of row.first → p ≡ named row.count row.first → (opens o && may_name p) ≡ head_good (head_of ms)
+    good_told o p e n =
+        rw (e, n, may_named (leb row.count header_least) (program_in row.first), opening_told, program_told, count_told)
+
+    module _ (teams : ℕ) (kept : List ℤ) (tally : Tally) (later : List ℤ) (s : WholeNumbers text (record { line = head.line + 1; place = row.end }) teams kept tally later) where
+      clean : fault_from 1 ms ≡ granted
+      clean = sym f.fault ∙ sym r.fault ∙ s.fault
+
+      pub other_count : is_header row.count ≡ false → ruled 24 head.line ≡ header_verdict (length text) ms
+      unfolding header_verdict head_verdict given
+      other_count e =
+          let no : is_header (length (head_of ms)) ≡ false = rw count_told at e in
+          rw (le-ltb max_bytes (length text) h, clean, no, f.line)
+
+      pub outside : (o : Opening) (p : Option ℕ) → o ≡ opening_of row.first → p ≡ named row.count row.first → is_header row.count ≡ true → (opens o && may_name p) ≡ false
+          → ruled 20 head.line ≡ header_verdict (length text) ms
+      unfolding header_verdict head_verdict given
+      outside o p is n e g =
+          let yes : is_header (length (head_of ms)) ≡ true = rw count_told at e in
+          let no : head_good (head_of ms) ≡ false = sym (good_told o p is n) ∙ g in
+          rw (le-ltb max_bytes (length text) h, clean, yes, no, f.line)
+
+      ends : header_verdict (length text) ms ≡ granted → row.end ≡ rest_place text
+      unfolding rest_place
+      ends g = rw g (r.end ∙ rw f.there)
+
+      pub found_heading : (o : Opening) (p : Option ℕ) (good : may_name p ≡ true) → o ≡ opening_of row.first → p ≡ named row.count row.first → teams ≡ nat_of o.teams → is_header row.count ≡ true → (opens o && may_name p) ≡ true
+          → WholeHeading text kept (record { header = record { opening = o; program = p; named = good }; tally = tally; end = row.end }) later
+      unfolding header_verdict head_verdict given
+      found_heading o p good is n t e g =
+          let yes : is_header (length (head_of ms)) ≡ true = rw count_told at e in
+          let within : head_good (head_of ms) ≡ true = sym (good_told o p is n) ∙ g in
+          let opening : o ≡ opening_of (head_of ms) = is ∙ opening_told in
+          let there : marks (drop row.end text) ≡ schedule_marks ms = r.there ∙ ap after_line f.there in
+          let teams_told : teams ≡ teams_of ms = t ∙ ap (λ (o : Opening). nat_of o.teams) opening in
+          let verdict : header_verdict (length text) ms ≡ granted = rw (le-ltb max_bytes (length text) h, clean, yes, within) in
+          record {
+            verdict = verdict;
+            opening = opening;
+            program = ap told_program n ∙ named_by (leb row.count header_least) row.count row.first (head_of ms) refl count_told program_told;
+            end = ends verdict;
+            within = r.within;
+            tally = rw (← f.line, ← there, ← teams_told) s.tally;
+            keeps = s.keeps ∙ rw there;
+          }
 
 -- ---- the schedule
 
-module _ (text : List ℕ) (room : ℕ) (kept : List ℤ) (h : Heading) (later : List ℤ) (f : FoundHeading text kept h later) where
-  pub schedule-verdict : (short body v : Verdict)
-      → short ≡ given (ltb room h.tally.count) (ruled 27 0) granted
-      → body ≡ given (not (eqb h.tally.stranger 0)) (ruled 26 h.tally.stranger) short
-      → v ≡ given (not (is_granted h.verdict)) h.verdict body
-      → v ≡ schedule_verdict room (length text) (marks text)
-  unfolding schedule_verdict body_verdict
-  schedule-verdict short body v s b is =
-      is
-      ∙ later_tests (is_granted h.verdict) h.verdict body (body_verdict room (marks text)) refl (λ g. rw (b, s, f.tally g))
-      ∙ rw f.verdict
+-- what the tests of the schedule give, by the line of the first stranger, 0 where there is none, and by the count
+abbrev tested : ℕ → ℕ → ℕ → Verdict
+tested room line count = given (not (eqb line 0)) (ruled 26 line) (given (ltb room count) (ruled 27 0) granted)
 
-  granted_heading : Granted room (length text) (marks text) → is_granted h.verdict ≡ true
-  granted_heading g = rw f.verdict g.header
+refused_by : (s : Option ℕ) (t : Bool) (room line count : ℕ) → ltb room count ≡ t → IsLine s line → (e : Refused) → Err e ≡ judged_by s count room → verdict_of e ≡ tested room line count
+unfolding given
+refused_by (Some l) t room line count p f e is =
+    let what : e ≡ record { refusal = refusal.Stranger; line = l } = cc in
+    rw (what, ← f.1, ne_eqb l 0 (λ z. omega (arith, z, f.0)))
+refused_by None true room line count p f e is =
+    let short : Err e ≡ Err (record { refusal = refusal.ShortSchedule; line = 0 }) = rw p at is in
+    let what : e ≡ record { refusal = refusal.ShortSchedule; line = 0 } = cc in
+    rw (what, f, p)
+refused_by None false room line count p f e is =
+    let none : Err e ≡ Ok count = rw p at is in
+    cc
 
-  granted_count : Granted room (length text) (marks text) → h.tally.count ≡ length (schedule_numbers (marks text))
-  granted_count g = ap (λ (t : Tally). t.count) (f.tally (granted_heading g))
+record Allowed (s : Option ℕ) (room count n : ℕ) : Type 0 where
+  all : n ≡ count
+  teams : s ≡ None
+  fits : count ≤ room
 
-  -- the numbers that were counted are kept, and have room
-  pub granted_kept : Granted room (length text) (marks text) → h.tally.count ≤ length later
-  granted_kept g =
-      let ns = schedule_numbers (marks text) in
-      let size : length later ≡ length ns + length (drop (length ns) kept) = rw (f.keeps (granted_heading g)) (length-append (map signed ns) (drop (length ns) kept) ∙ rw (length-map ns signed)) in
-      omega (arith, size, granted_count g)
+allowed_by : (s : Option ℕ) (t : Bool) (room count n : ℕ) → ltb room count ≡ t → Ok n ≡ judged_by s count room → Allowed s room count n
+allowed_by (Some l) t room count n p is = cc
+allowed_by None true room count n p is =
+    let none : Ok n ≡ Err (record { refusal = refusal.ShortSchedule; line = 0 }) = rw p at is in
+    cc
+allowed_by None false room count n p is =
+    let what : Ok n ≡ Ok count = rw p at is in
+    record { all = cc; teams = refl; fits = ltb-false room count p }
 
-  pub granted_room : Granted room (length text) (marks text) → h.tally.count ≤ room
-  granted_room g = rw (granted_count g) g.fits
+-- what a heading tells of a text, of which the room is asked
+module _ (text : List ℕ) (room : ℕ) (kept : List ℤ) (h : Heading) (later : List ℤ) (f : WholeHeading text kept h later) where
+  no_stranger : h.tally.stranger ≡ None → stranger_line (marks text) ≡ 0
+  no_stranger e = rw e at f.tally.stranger
 
-  pub granted_answer : Granted room (length text) (marks text) → record { code = 0; line = 0; opening = h.opening; program = h.program; count = h.tally.count } ≡ schedule_of room text
+  pub judged_refused : (e : Refused) → Err e ≡ judged h.tally room → verdict_of e ≡ schedule_verdict room (length text) (marks text)
+  unfolding schedule_verdict body_verdict given
+  judged_refused e is =
+      refused_by h.tally.stranger (ltb room h.tally.count) room (stranger_line (marks text)) h.tally.count refl f.tally.stranger e is
+      ∙ rw (f.verdict, f.tally.count)
+
+  allowed : (n : ℕ) → Ok n ≡ judged h.tally room → Allowed h.tally.stranger room h.tally.count n
+  allowed n is = allowed_by h.tally.stranger (ltb room h.tally.count) room h.tally.count n refl is
+
+  granted_verdict : h.tally.stranger ≡ None → h.tally.count ≤ room → schedule_verdict room (length text) (marks text) ≡ granted
+  unfolding schedule_verdict body_verdict given
+  granted_verdict e l = rw (f.verdict, no_stranger e, ← f.tally.count, le-ltb room h.tally.count l)
+
+  pub granted_answer : (n : ℕ) → Ok n ≡ judged h.tally room
+      → record { code = 0; line = 0; opening = h.header.opening; program = told_program h.header.program; count = n } ≡ schedule_of room text
   unfolding schedule_of
-  granted_answer g =
-      let ok = granted_heading g in
-      let opening : h.opening ≡ opening_of (head_of (marks text)) = f.opening ∙ rw ok in
-      let program : h.program ≡ program_in (head_of (marks text)) = f.program ∙ rw ok in
-      rw (granted_is room (length text) (marks text) g, opening, program, f.tally ok)
+  granted_answer n is =
+      let a = allowed n is in
+      rw (granted_verdict a.teams a.fits, f.opening, f.program, a.all, f.tally.count)
 
-pub refused_answer : (text : List ℕ) (room : ℕ) (v : Verdict) → v ≡ schedule_verdict room (length text) (marks text) → is_granted v ≡ false → record { code = v.code; line = v.line; opening = no_opening; program = 0; count = 0 } ≡ schedule_of room text
+pub refused_answer : (text : List ℕ) (room : ℕ) (e : Refused) → verdict_of e ≡ schedule_verdict room (length text) (marks text)
+    → record { code = code_of e.refusal; line = e.line; opening = no_opening; program = 0; count = 0 } ≡ schedule_of room text
 unfolding schedule_of
-refused_answer text room v e g = rw (← e, g)
+refused_answer text room e is = rw (← is, refusing e.refusal)
 
-pub refused_area : (text : List ℕ) (area : List ℤ) (v : Verdict) → v ≡ schedule_verdict (length area) (length text) (marks text) → is_granted v ≡ false → area ≡ area_of text area
+pub refused_area : (text : List ℕ) (area : List ℤ) (e : Refused) → verdict_of e ≡ schedule_verdict (length area) (length text) (marks text) → area ≡ area_of text area
 unfolding area_of
-refused_area text area v e g = rw (← e, g)
+refused_area text area e is = rw (← is, refusing e.refusal)
 
-pub granted_area : (text : List ℕ) (area kept : List ℤ) (h : Heading) (later : List ℤ) → FoundHeading text kept h later → Granted (length area) (length text) (marks text) → take h.tally.count later ++ drop h.tally.count area ≡ area_of text area
+pub refused_schedule : (text : List ℕ) (room : ℕ) (e : Refused) → verdict_of e ≡ header_verdict (length text) (marks text) → verdict_of e ≡ schedule_verdict room (length text) (marks text)
+unfolding schedule_verdict given
+refused_schedule text room e is = rw (← is, refusing e.refusal)
+
+pub granted_area : (text : List ℕ) (area kept : List ℤ) (h : Heading) (later : List ℤ) → WholeHeading text kept h later → (n : ℕ) → Ok n ≡ judged h.tally (length area) → take n later ++ drop n area ≡ area_of text area
 unfolding area_of
-granted_area text area kept h later f g =
+granted_area text area kept h later f n is =
     let ns = schedule_numbers (marks text) in
-    let count = granted_count text (length area) kept h later f g in
-    let ok = granted_heading text (length area) kept h later f g in
-    let taken : take (length ns) later ≡ map signed ns = rw (f.keeps ok) (take_at (map signed ns) (drop (length ns) kept) (length ns) (length-map ns signed)) in
-    rw (count, taken, granted_is (length area) (length text) (marks text) g)
+    let a = allowed text (length area) kept h later f n is in
+    let taken : take (length ns) later ≡ map signed ns = rw f.keeps (take_at (map signed ns) (drop (length ns) kept) (length ns) (length-map ns signed)) in
+    rw (a.all, f.tally.count, taken, granted_verdict text (length area) kept h later f a.teams a.fits)
+
+-- ---- the header's answer
+
+pub refused_header : (text : List ℕ) (e : Refused) → verdict_of e ≡ header_verdict (length text) (marks text)
+    → record { code = code_of e.refusal; line = e.line; opening = no_opening; program = 0 } ≡ header_of text
+unfolding header_of
+refused_header text e is = rw (← is, refusing e.refusal)
+
+pub granted_header : (text : List ℕ) (kept : List ℤ) (h : Heading) (later : List ℤ) → WholeHeading text kept h later
+    → record { code = 0; line = 0; opening = h.header.opening; program = told_program h.header.program } ≡ header_of text
+unfolding header_of
+granted_header text kept h later f = rw (f.verdict, f.opening, f.program)
+
+pub refused_rest : (text : List ℕ) (e : Refused) → verdict_of e ≡ header_verdict (length text) (marks text) → length text ≡ rest_place text
+unfolding rest_place
+refused_rest text e is = rw (← is, refusing e.refusal)

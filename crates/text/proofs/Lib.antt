@@ -1,3 +1,3 @@
+pub mod Stepping
 pub mod Passing
 pub mod Judging
-pub mod Copying

@@ -10,13 +10,12 @@ use lib.IntN.{pos}
 use borrow.Author.Tests.{eq-eqb, ne_eqb, leb-true, ltb-true, ltb-false, le-ltb}
 use Rattle.numbers.proofs.Laws.{signed_is}
 use Rattle.numbers.specs.Progress.{signed}
-use Rattle.text_rules.specs.declared.Verdict.{Verdict}
 use Rattle.text_rules.specs.declared.Token.{Token}
 use Rattle.text_rules.specs.Bytes.{Class, LineEnd, Hash, Blank, Digit, Other, class_of, is_digit}
 use Rattle.text_rules.specs.Marks.{Mark, line_end, number, wrong, in_comment, starts_digit, longer, added, marks_from, marks}
 use Rattle.text_rules.specs.Digits.{value, too_large, number_of}
 use Rattle.text_rules.specs.Lines.{head_line, from_head, after_line, numbers_of}
-use Rattle.text_rules.specs.Judgement.{max_bytes, is_granted, given, fault_from, head_of, head_verdict, header_verdict, schedule_marks, schedule_numbers, teams_of, is_team, stranger_from, body_verdict, schedule_verdict}
+use Rattle.text_rules.specs.Judgement.{Verdict, max_bytes, is_granted, given, fault_from, head_of, head_verdict, header_verdict, schedule_marks, schedule_numbers, teams_of, is_team, stranger_from, body_verdict, schedule_verdict}
 use Rattle.text_rules.specs.Answers.{header_of, rest_place, rest_of, schedule_of, area_of}
 use Rattle.text_rules.specs.declared.Kind.TheVariants as kind
 use Rattle.text_rules.specs.Tokens.{token_of, token_at}

@@ -9,9 +9,8 @@ use lib.ListN.{length, get_or-eq_default}
 use borrow.Author.Tests.{le-ltb, leb-true, leb-false, ltb-false, eq-eqb, ne_eqb, eqb-true}
 use Rattle.rules.specs.Limits.{opens, max_program}
 use Rattle.rules.proofs.Facts.{both, either}
-use Rattle.text_rules.specs.declared.Verdict.{Verdict}
 use Rattle.text_rules.specs.Marks.{Mark}
-use Rattle.text_rules.specs.Judgement.{max_bytes, header_least, header_most, is_header, granted, is_granted, given, fault_from, opening_of, program_in, is_program, program_good, head_good, head_of, head_verdict, header_verdict, schedule_numbers, stranger_line, body_verdict, schedule_verdict}
+use Rattle.text_rules.specs.Judgement.{Verdict, max_bytes, header_least, header_most, is_header, granted, is_granted, given, fault_from, opening_of, program_in, is_program, program_good, head_good, head_of, head_verdict, header_verdict, schedule_numbers, stranger_line, body_verdict, schedule_verdict}
 
 -- a test that is passed
 pub passed : (b : Bool) (v rest : Verdict) → is_granted v ≡ false → is_granted (given b v rest) ≡ true → (b ≡ false) × (is_granted rest ≡ true)

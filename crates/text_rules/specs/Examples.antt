@@ -3,9 +3,8 @@ use Rattle.std.specs.Prelude.{◌≡◌, List, [], ◌∷◌, map, ℕ, ℤ, pos
 use Prim.Native.Char.{code}
 use Prim.Native.String.{String, [] as none, ◌∷◌ as ◌and◌}
 use Rattle.rules.specs.declared.Opening.{Opening}
-use Rattle.text_rules.specs.declared.Verdict.{Verdict}
 use Rattle.text_rules.specs.Marks.{marks}
-use Rattle.text_rules.specs.Judgement.{ruled, granted, header_verdict, schedule_verdict}
+use Rattle.text_rules.specs.Judgement.{Verdict, ruled, granted, header_verdict, schedule_verdict}
 use Rattle.text_rules.specs.Answers.{header_of, rest_place, schedule_of, area_of}
 
 -- the bytes of a text in ASCII

@@ -1,12 +1,11 @@
 -- "The whole text is judged before the first step: 21; then the earliest byte with 22 or 23 (23 at the number's first byte); 24; 20;
 -- the first 26; 27." "LINE is 0 for 21, for 27 and for 24 without any number, the header's line for other 24 and 20, and else the line of
 -- that byte or number."
-use Rattle.std.specs.Prelude.{ℕ, ◌+◌, Bool, cond, not, ◌&&◌, ◌||◌, List, [], ◌∷◌, eqb, leb, ltb, length, get_or}
+use Rattle.std.specs.Prelude.{ℕ, ◌+◌, Bool, true, cond, not, ◌&&◌, ◌||◌, List, [], ◌∷◌, eqb, leb, ltb, length, get_or, Option, None, Some}
 use Rattle.numbers.specs.Progress.{signed}
 use Rattle.numbers.specs.Fields.{nat_of}
 use Rattle.rules.specs.declared.Opening.{Opening}
 use Rattle.rules.specs.Limits.{opens, max_program}
-use Rattle.text_rules.specs.declared.Verdict.{Verdict}
 use Rattle.text_rules.specs.Marks.{Mark, line_end, number, wrong}
 use Rattle.text_rules.specs.Digits.{too_large, number_of}
 use Rattle.text_rules.specs.Lines.{head_line, from_head, line_numbers, after_line, numbers_of}
@@ -25,6 +24,11 @@ header_most = 6
 -- "five or six numbers"
 abbrev pub is_header : ℕ → Bool
 is_header count = leb header_least count && leb count header_most
+
+-- what the tests give
+pub record Verdict : Type 0 where
+  pub code : ℕ
+  pub line : ℕ
 
 abbrev pub ruled : ℕ → ℕ → Verdict
 ruled code line = record { code = code; line = line }
@@ -63,6 +67,11 @@ program_in ns = get_or ns header_least 0
 
 abbrev pub is_program : ℕ → Bool
 is_program n = leb 1 n && leb n max_program
+
+-- what a header names as its program: one, or none
+abbrev pub may_name : Option ℕ → Bool
+may_name None = true
+may_name (Some n) = is_program n
 
 -- A sixth number is a program's. A written 0 is no program, though 0 also stands for none: so the count is asked first.
 abbrev pub program_good : ℕ → ℕ → Bool

@@ -2,46 +2,46 @@
 // definitions of specs/; what is claimed of the readers are theorems of this crate.
 #![tactic(auto)]
 
-use rules::Opening;
+ghost use Rattle.std.specs.Prelude.{IsTrue};
+ghost use Rattle.text_rules.specs.Judgement.{may_name};
 
-#[derive(Clone, Copy)]
+use rules::{Opening, Refusal};
+
+// What stands at a place of the text: its end, a line's end, a number or a byte that has no place in a text.
+#[derive(Clone, Copy, Debug, PartialEq, Eq)]
 pub enum Kind {
     End,
     LineEnd,
-    Number,
+    Number(u32),
     Wrong,
 }
 
-// What stands at a place of the text, with the place after it. The value is a number's, and else 0.
-#[derive(Clone, Copy)]
+// What stands at a place of the text, with the place after it.
+#[derive(Clone, Copy, Debug, PartialEq, Eq)]
 pub struct Token {
     pub kind: Kind,
-    pub value: u32,
     pub end: usize,
 }
 
-// The code of a refusal and its LINE, both 0 when granted.
-#[derive(Clone, Copy)]
-pub struct Verdict {
-    pub code: u32,
+// Why a text is refused, with document 01's LINE.
+#[derive(Clone, Copy, Debug, PartialEq, Eq)]
+pub struct Refused {
+    pub refusal: Refusal,
     pub line: u32,
 }
 
-// The program is 0 where the header names none: five numbers, or a refusal.
-#[derive(Clone, Copy)]
+// The numbers of the header. Five numbers name no program.
+#[derive(Clone, Copy, Debug, PartialEq, Eq)]
 pub struct Header {
-    pub code: u32,
-    pub line: u32,
     pub opening: Opening,
-    pub program: u32,
+    pub program: Option<u32>,
+    ghost named: { IsTrue (may_name program) },
 }
 
-#[derive(Clone, Copy)]
+// The header, with the count of the schedule's numbers.
+#[derive(Clone, Copy, Debug, PartialEq, Eq)]
 pub struct Schedule {
-    pub code: u32,
-    pub line: u32,
-    pub opening: Opening,
-    pub program: u32,
+    pub header: Header,
     pub count: usize,
 }
 

@@ -1,5 +1,4 @@
 pub mod Classes
-pub mod Fronts
 pub mod Values
 pub mod Running
 pub mod Says

@@ -1,38 +1,56 @@
--- A run of digits, read from a place on up to i with the value v.
-use mathlib.Core.Path.{◌≡◌, ap}
+-- The digits of a run, one after the other: what is counted and added up so far, with what is left.
+use mathlib.Core.Path.{◌≡◌, ◌∙◌}
 use mathlib.Core.Bool.{true}
-use mathlib.Core.List.{List, []}
-use Prim.Native.Nat.{ℕ, ◌+◌, ◌-◌, ◌≤◌, ◌<◌}
+use mathlib.Core.List.{List, ◌∷◌}
+use Prim.Native.Nat.{ℕ, ◌+◌, ◌-◌, ◌*◌, ◌≤◌, ◌<◌}
 use native.Mathlib.Omega.{arith}
-use lib.ListN.{length, get_or}
+use Rattle.std.proofs.lemmas.Bool.{lt-leb, le-leb}
+use native.Mathlib.Numerals.{add-one}
+use lib.ListN.{length, get_or, drop}
+use lib.Seq.{drop-cons}
+use Rattle.std.specs.List.{fold, prefix_len, take_while}
+use Rattle.std.proofs.lemmas.List.Sums.{take_while-cons, prefix_len-le-length, prefix_len-drop_all}
 use Rattle.text_rules.specs.Bytes.{is_numeral}
-use Rattle.tokens.specs.Scan.{run_at, number_at, grown, grown_by, most_grown, read_as}
+use Rattle.text_rules.specs.Digits.{max_number}
+use Rattle.tokens.specs.Scan.{with_digit, Run}
 use Rattle.tokens.proofs.Classes.{numeral_within}
-use Rattle.tokens.proofs.Fronts.{front_on}
-use Rattle.tokens.proofs.Values.{grown_small, read_number}
 
-pub record Running (text : List ℕ) (from i v : ℕ) : Type 0 where
-  pub since : from ≤ i
-  pub small : v ≤ most_grown
-  pub value : grown_by v (run_at text i) ≡ grown_by 0 (run_at text from)
-  pub end : i + length (run_at text i) ≡ from + length (run_at text from)
+pub record Running (bytes : List ℕ) (i value : ℕ) : Type 0 where
+  pub count : i + prefix_len is_numeral (drop i bytes) ≡ prefix_len is_numeral bytes
+  pub sum : fold with_digit value (take_while is_numeral (drop i bytes)) ≡ fold with_digit 0 (take_while is_numeral bytes)
+  pub most : value ≤ max_number * 10 + 9
 
-pub runs_on : (text : List ℕ) (from i v : ℕ) → Running text from i v → i < length text → is_numeral (get_or text i 0) ≡ true → Running text from (i + 1) (grown v (get_or text i 0))
-unfolding grown_by
-runs_on text from i v r h e =
-    let on = front_on is_numeral text i h e in
-    record {
-      since = omega (arith, r.since);
-      small = grown_small v (get_or text i 0) (numeral_within (get_or text i 0) e).1 r.small;
-      value = rw on at r.value;
-      end = omega (arith, r.end, ap length on);
-    }
+module _ (bytes : List ℕ) (i value : ℕ) (r : Running bytes i value) where
+  runs_on : i < length bytes → is_numeral (get_or bytes i 0) ≡ true → (v : ℕ) → v ≡ with_digit value (get_or bytes i 0) → v ≤ max_number * 10 + 9 → Running bytes (i + 1) v
+  runs_on h e v is m =
+      let b = get_or bytes i 0 in
+      let rest = drop (i + 1) bytes in
+      let parts : drop i bytes ≡ b ∷ rest = rw (add-one i) (drop-cons bytes i 0 h) in
+      let run : take_while is_numeral (b ∷ rest) ≡ b ∷ take_while is_numeral rest = take_while-cons is_numeral b rest ∙ rw e in
+      let size : prefix_len is_numeral (b ∷ rest) ≡ 1 + prefix_len is_numeral rest = rw e in
+      let count = rw parts at r.count in
+      record {
+        count = omega (arith, size, count);
+        sum = rw is (rw run at (rw parts at r.sum));
+        most = m;
+      }
 
-pub runs_out : (text : List ℕ) (from i v n : ℕ) → Running text from i v → run_at text i ≡ [] → n ≡ read_as (i - from) v → record { value = n; end = i } ≡ number_at text from
-unfolding grown_by number_at
-runs_out text from i v n r e is =
-    let value : v ≡ grown_by 0 (run_at text from) = rw e at r.value in
-    let none : length (run_at text i) ≡ 0 = ap length e in
-    let end : i ≡ from + length (run_at text from) = omega (arith, r.end, none) in
-    let count : i - from ≡ length (run_at text from) = omega (arith, end) in
-    rw (is, count, value, read_number (run_at text from), ← end)
+  pub runs_small : i < length bytes → is_numeral (get_or bytes i 0) ≡ true → value ≤ max_number → Running bytes (i + 1) (value * 10 + (get_or bytes i 0 - 48))
+  runs_small h e s =
+      let most = (numeral_within (get_or bytes i 0) e).1 in
+      runs_on h e _ (rw (le-leb value max_number s)) (omega (arith, s, most))
+
+  pub runs_large : i < length bytes → is_numeral (get_or bytes i 0) ≡ true → max_number < value → Running bytes (i + 1) value
+  runs_large h e s = runs_on h e _ (rw (lt-leb value max_number s)) r.most
+
+  pub runs_out : prefix_len is_numeral (drop i bytes) ≡ 0 → Run bytes (i, value)
+  runs_out e =
+      let most : prefix_len is_numeral bytes ≤ length bytes = prefix_len-le-length is_numeral bytes in
+      let count : i ≡ prefix_len is_numeral bytes = omega (arith, e, r.count) in
+      record { count = count; value = rw e at r.sum; within = omega (arith, count, most) }
+
+  pub runs_through : length bytes ≤ i → Run bytes (length bytes, value)
+  runs_through h =
+      let none : prefix_len is_numeral (drop i bytes) ≡ 0 = prefix_len-drop_all is_numeral bytes i h in
+      let r = runs_out none in
+      record { count = omega (arith, h, r.count, r.within); value = r.value; within = omega arith }

@@ -1,46 +1,56 @@
 -- Laws of a number's value: one that no longer grows once it is too large is judged and read as the value itself.
-use mathlib.Core.Path.{◌≡◌, refl}
+use mathlib.Core.Path.{◌≡◌, refl, sym, ◌∙◌}
 use mathlib.Core.Bool.{Bool, true, false, cond, ◌||◌}
 use mathlib.Core.List.{List, [], ◌∷◌}
-use Prim.Native.Nat.{ℕ, ◌+◌, ◌-◌, ◌*◌, ◌≤◌, ◌<◌}
+use Prim.Native.Nat.{ℕ, ◌+◌, ◌-◌, ◌*◌, ◌<◌}
 use native.Mathlib.Omega.{arith}
-use lib.Dec.{ltb}
-use lib.ListN.{length}
-use borrow.Author.Tests.{lt-ltb, ltb-true, ltb-false}
+use lib.Dec.{leb, ltb}
+use lib.ListN.{length, drop}
+use borrow.Author.Tests.{lt-ltb, leb-false}
+use Rattle.std.proofs.lemmas.Bool.{lt-leb}
+use Rattle.std.specs.List.{fold, take_while}
+use Rattle.std.proofs.lemmas.List.Folds.{length-prefix_len}
+use Rattle.text_rules.specs.declared.Kind.TheVariants as kind
+use Rattle.text_rules.specs.Bytes.{is_numeral}
+use Rattle.text_rules.specs.Tokens.{token_by}
 use Rattle.text_rules.specs.Digits.{max_digits, max_number, refused_number, value_from, value, too_large, number_of}
-use Rattle.tokens.specs.Scan.{grown, grown_by, most_grown, read_as}
+use Rattle.tokens.specs.Scan.{with_digit, Run, read_as, number_at}
 
 -- v stands for x: it is x, or both are too large
 data Stands : ℕ → ℕ → Type 0 where
   same : {v : ℕ} → Stands v v
   over : {v x : ℕ} → max_number < v → max_number < x → Stands v x
 
-grown_same : (t : Bool) (v d : ℕ) → ltb max_number v ≡ t → Stands (cond t v (v * 10 + (d - 48))) (v * 10 + (d - 48))
-grown_same true v d e = let h = ltb-true max_number v e in over {x = v * 10 + (d - 48)} h (omega arith)
-grown_same false v d e = same
+digit_added : (t : Bool) (v d : ℕ) → leb v max_number ≡ t → Stands (with_digit v d) (v * 10 + (d - 48))
+digit_added true v d e = rw e same
+digit_added false v d e =
+    let h = leb-false v max_number e in
+    let is : with_digit v d ≡ v = rw e in
+    over {v = with_digit v d} {x = v * 10 + (d - 48)} (rw is h) (omega (arith, h))
 
-grown_stands : (v x d : ℕ) → Stands v x → Stands (grown v d) (x * 10 + (d - 48))
-grown_stands v x d same = grown_same (ltb max_number v) v d refl
-grown_stands v x d (over h k) = rw (lt-ltb max_number v h) (over {x = x * 10 + (d - 48)} h (omega arith))
+with_digit_stands : (v x d : ℕ) → Stands v x → Stands (with_digit v d) (x * 10 + (d - 48))
+with_digit_stands v x d same = digit_added (leb v max_number) v d refl
+with_digit_stands v x d (over h k) =
+    let is : with_digit v d ≡ v = rw (lt-leb v max_number h) in
+    over {v = with_digit v d} {x = x * 10 + (d - 48)} (rw is h) (omega (arith, k))
 
-stands_from : (ds : List ℕ) (v x : ℕ) → Stands v x → Stands (grown_by v ds) (value_from x ds)
-unfolding grown_by value_from
+stands_from : (ds : List ℕ) (v x : ℕ) → Stands v x → Stands (fold with_digit v ds) (value_from x ds)
+unfolding value_from
 stands_from [] v x s = s
-stands_from (d ∷ ds) v x s = stands_from ds (grown v d) (x * 10 + (d - 48)) (grown_stands v x d s)
+stands_from (d ∷ ds) v x s = stands_from ds (with_digit v d) (x * 10 + (d - 48)) (with_digit_stands v x d s)
 
 read_stands : (b : Bool) (v x : ℕ) → Stands v x → cond (b || ltb max_number v) refused_number v ≡ cond (b || ltb max_number x) refused_number x
 read_stands b v x same = refl
 read_stands true v x (over h k) = refl
 read_stands false v x (over h k) = rw (lt-ltb max_number v h, lt-ltb max_number x k)
 
-pub read_number : (ds : List ℕ) → read_as (length ds) (grown_by 0 ds) ≡ number_of ds
+pub read_number : (ds : List ℕ) → number_of ds ≡ read_as (length ds) (fold with_digit 0 ds)
 unfolding too_large number_of
-read_number ds = read_stands (ltb max_digits (length ds)) (grown_by 0 ds) (value ds) (stands_from ds 0 0 same)
+read_number ds = sym (read_stands (ltb max_digits (length ds)) (fold with_digit 0 ds) (value ds) (stands_from ds 0 0 same))
 
--- a value of this size fits, and so does the next
-small_next : (t : Bool) (v b : ℕ) → ltb max_number v ≡ t → b ≤ 57 → v ≤ most_grown → cond t v (v * 10 + (b - 48)) ≤ most_grown
-small_next true v b e h k = k
-small_next false v b e h k = let l = ltb-false max_number v e in omega arith
+read_run : (bytes : List ℕ) (r : ℕ × ℕ) → Run bytes r → read_as r.0 r.1 ≡ number_of (take_while is_numeral bytes)
+read_run bytes r d = let size : r.0 ≡ length (take_while is_numeral bytes) = d.count ∙ sym (length-prefix_len is_numeral bytes) in
+    rw (size, d.value) (sym (read_number (take_while is_numeral bytes)))
 
-pub grown_small : (v b : ℕ) → b ≤ 57 → v ≤ most_grown → grown v b ≤ most_grown
-grown_small v b h k = small_next (ltb max_number v) v b refl h k
+pub run_token : (text : List ℕ) (from : ℕ) (r : ℕ × ℕ) → Run (drop from text) r → token_by (kind.Number (read_as r.0 r.1)) (from + r.0) ≡ number_at text from
+run_token text from r d = rw (read_run (drop from text) r d, d.count)

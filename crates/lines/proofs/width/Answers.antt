@@ -1,15 +1,13 @@
+-- The logarithm says how many digits there are.
 use Rattle.std.proofs.Common.{arith}
-use Rattle.line_rules.proofs.Decimal.{decimal-some, decimal_width, decimal_shorter, decimal_one}
+use Rattle.line_rules.proofs.Decimal.{decimal_length, decimal_one}
 use Rattle.lines.proofs.width.Goals as goal
 
-pub overflow_add-count : goal.overflow_add-count
-overflow_add-count c = omega (arith, decimal_width 19 c.args.n (omega arith), decimal-some c.loop-high.high)
+pub returns-in-Some : goal.returns-in-Some
+returns-in-Some c =
+    let k = c.in-Some.ensures in
+    let e = decimal_length c.in-Some.k c.args.n k.power_le k.next_power_gt in
+    (omega arith, omega (arith, k.bound))
 
-pub loop-high-preserved : goal.loop-high-preserved
-loop-high-preserved c = omega (arith, decimal_shorter c.loop-high.high c.loop-high-test.true)
-
-pub returns : goal.returns
-returns c =
-    let one = decimal_one c.loop-high.high c.loop-high-test.false in
-    let most = decimal_width 19 c.args.n (omega arith) in
-    (omega arith, omega arith)
+pub returns-in-None : goal.returns-in-None
+returns-in-None c = let e = decimal_one c.args.n (omega (arith, c.in-None.ensures.none)) in (omega arith, omega arith)

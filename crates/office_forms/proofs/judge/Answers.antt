@@ -1,23 +1,26 @@
--- 0 where the walk passes, 1 where it does not.
-use Rattle.std.proofs.Common.{true, false, sym, ◌∙◌}
-use Rattle.layout.specs.Areas.{decoded}
-use Rattle.office_forms.proofs.Codes.{measured, judged_1, judged_0, by-table, stolen_told}
+-- The area is measured where its numbers pass, and well formed where the walk over it does.
+use Rattle.std.proofs.Common.{sym, ◌∙◌}
+use Rattle.office_forms.proofs.Codes.{m, judged_0, walked_some, walked_none}
 use Rattle.office_forms.proofs.judge.Goals as goal
 
-pub returns-then-w : goal.returns-then-w
-returns-then-w c =
-    let bs = c.args.bytes.now in
+pub invariant_of-area : goal.invariant_of-area
+invariant_of-area c =
     let long = sym c.too_short.ensures ∙ c.if-too_short.false in
-    let numbered = sym c.numbers_ok.ensures ∙ c.if-numbers_ok.true in
-    let m = measured bs long numbered c.number_at-teams.ensures c.number_at-room.ensures c.number_at-used.ensures in
-    let walked = c.table_ok-w.ensures in
-    let formed = by-table (decoded bs) _ true m.used_is numbered (sym c.if-w.true ∙ walked.ok_value) in
-    judged_0 bs long formed _ (walked.stolen_value ∙ stolen_told bs _ _ _ m formed)
+    record { measured = m c.args.bytes.now long c.head_in-head.ensures c.if-not-is_good.ensures }
 
-pub returns-else-w : goal.returns-else-w
-returns-else-w c =
-    let bs = c.args.bytes.now in
+pub invariant_of-result : goal.invariant_of-result
+invariant_of-result c =
     let long = sym c.too_short.ensures ∙ c.if-too_short.false in
-    let numbered = sym c.numbers_ok.ensures ∙ c.if-numbers_ok.true in
-    let m = measured bs long numbered c.number_at-teams.ensures c.number_at-room.ensures c.number_at-used.ensures in
-    judged_1 bs long (by-table (decoded bs) _ false m.used_is numbered (sym c.if-w.false ∙ c.table_ok-w.ensures.ok_value))
+    let t = walked_some c.args.bytes.now long c.head_in-head.ensures c.if-not-is_good.ensures c.in-Some.ensures in
+    record { formed = t.0; counted = t.1 }
+
+pub returns-clause-value : goal.returns-clause-value
+returns-clause-value c =
+    let long = sym c.too_short.ensures ∙ c.if-too_short.false in
+    let t = walked_some c.args.bytes.now long c.head_in-head.ensures c.if-not-is_good.ensures c.in-Some.ensures in
+    judged_0 c.args.bytes.now long t.0 t.1
+
+pub returns-in_default-clause-value : goal.returns-in_default-clause-value
+returns-in_default-clause-value c =
+    let long = sym c.too_short.ensures ∙ c.if-too_short.false in
+    walked_none c.args.bytes.now long c.head_in-head.ensures c.if-not-is_good.ensures c.in_default.ensures

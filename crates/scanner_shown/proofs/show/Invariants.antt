@@ -1,9 +1,9 @@
--- The place stays in the text, and each token ends further on.
-use Rattle.std.proofs.Common.{◌-◌, ◌≤◌, length}
+-- The scanner stays on its text, and each token ends further on.
+use Rattle.std.proofs.Common.{◌≡◌, ◌-◌, length}
 use Rattle.scanner_shown.proofs.show.Given as goal
 
-abbrev pub invariant-loop-from : goal.invariant-loop-from
-invariant-loop-from g l = l.from ≤ length l.text
+abbrev pub invariant-loop-scanner : goal.invariant-loop-scanner
+invariant-loop-scanner g l = l.scanner.text.now ≡ l.text
 
-abbrev pub decreases-loop-from : goal.decreases-loop-from
-decreases-loop-from g l = length l.text - l.from
+abbrev pub decreases-loop-scanner : goal.decreases-loop-scanner
+decreases-loop-scanner g l = length l.text - l.scanner.place

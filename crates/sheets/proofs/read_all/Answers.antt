@@ -1,15 +1,13 @@
-use Rattle.std.proofs.Common.{rules, subst}
-use Rattle.std.specs.Io.KnownBytes.{Consumes}
-use Rattle.std.proofs.KnownBytes.{Consumes-nil, Consumes-trans}
-use Rattle.sheets.proofs.Bytes.{take_more}
+-- A read puts its bytes behind those that were read; a call that was interrupted changes nothing of them.
+use Rattle.std.proofs.Common.{arith, refl}
+use Rattle.sheets.proofs.Bytes.{goes_on, goes_again}
 use Rattle.sheets.proofs.read_all.Goals as goal
+use Rattle.sheets.proofs.read_all.Goals.{in-Ok, in-Err}
 
-pub loop-turns-init : goal.loop-turns-init
-loop-turns-init g c =
-    (search rules, search rules, rw c.nothing_moved-m.ensures.count (Consumes-nil _), search rules)
-
-pub loop-turns-preserved : goal.loop-turns-preserved
-loop-turns-preserved g c =
-    let read = c.in_ok-m.ensures in
-    let joined = take_more c.loop-turns.m.count c.in_ok-m.m.count c.loop-turns.area c.read_on.new.area read.bytes.0 read.front in
-    (search rules, read.within, subst (Consumes _ _) joined (Consumes-trans _ _ _ _ _ c.loop-turns.invariant.2 read.bytes.1), read.end)
+pub loop-turn-preserved : goal.loop-turn-preserved
+loop-turn-preserved g c =
+    let l = c.loop-turn in
+    elim c.match-read.branch [
+      | in-Ok w ↦ goes_on l.done _ l.area c.read.new.buf l.invariant.0 refl (omega (arith, c.read.auto.buf)) _ _ _ l.invariant.1 _ w.in-Ok.n w.done-is w.in-Ok.ensures.bound.0 w.in-Ok.ensures.bytes.0
+      | in-Err w ↦ goes_again l.done _ l.area c.read.new.buf l.invariant.0 refl (omega (arith, c.read.auto.buf)) _ _ _ l.invariant.1 _ w.done-is w.in-Err.ensures.bytes
+    ]

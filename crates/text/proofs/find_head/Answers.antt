@@ -1,35 +1,32 @@
-use Rattle.std.proofs.Common.{sym, ◌∙◌, arith}
-use borrow.Author.Tests.{ne_eqb}
-use Rattle.tokens.proofs.Says.{Silent, says_line, silent_blank, silent_comment}
-use Rattle.text.proofs.Passing.{seek_silent, seek_line, seek_here, seek_none}
+use Rattle.std.proofs.Common.{arith}
+use Rattle.text.proofs.Stepping.{SaysLine, at_line, at_number, at_wrong, at_none}
+use Rattle.text.proofs.Passing.{seek_line, seek_number, seek_wrong, seek_none}
 use Rattle.text.proofs.find_head.Goals as goal
 
-pub loop-i-smaller-then-b-eq35 : goal.loop-i-smaller-then-b-eq35
-loop-i-smaller-then-b-eq35 c =
-    let passed : Silent c.args.text.now c.loop-i.i c.comment_end-i.result =
-    rw c.comment_end-i.ensures (silent_comment c.args.text.now c.loop-i.i c.loop-i-test.true c.if-b-eq35.true) in
-    omega (arith, passed.further)
+pub returns-in-End : goal.returns-in-End
+returns-in-End c =
+    let s = c.loop-spot in
+    rw c.refused.ensures
+    (seek_none c.args.text.now c.requires s.spot s.invariant _ (at_none c.args.text.now _ s.invariant.within _ c.token_at-token.ensures c.in-End.is))
 
-pub loop-i-preserved-then-b-eq35 : goal.loop-i-preserved-then-b-eq35
-loop-i-preserved-then-b-eq35 c =
-    let passed : Silent c.args.text.now c.loop-i.i c.comment_end-i.result =
-    rw c.comment_end-i.ensures (silent_comment c.args.text.now c.loop-i.i c.loop-i-test.true c.if-b-eq35.true) in
-    seek_silent c.args.text.now c.loop-i.i c.loop-i.line c.loop-i.invariant _ passed
+pub returns-in-Number : goal.returns-in-Number
+returns-in-Number c =
+    let s = c.loop-spot in
+    seek_number c.args.text.now c.requires s.spot s.invariant _ _ (at_number c.args.text.now _ s.invariant.within _ c.token_at-token.ensures _ c.in-Number.is)
 
-pub loop-i-preserved-then-b-eq10 : goal.loop-i-preserved-then-b-eq10
-loop-i-preserved-then-b-eq10 c =
-    seek_line c.args.text.now c.loop-i.i c.loop-i.line c.loop-i.invariant _ _ (says_line c.args.text.now c.loop-i.i c.loop-i-test.true c.if-b-eq10.true)
+pub returns-in-Wrong : goal.returns-in-Wrong
+returns-in-Wrong c =
+    let s = c.loop-spot in
+    rw c.refused-in-Wrong.ensures
+    (seek_wrong c.args.text.now c.requires s.spot s.invariant _ (at_wrong c.args.text.now _ s.invariant.within _ c.token_at-token.ensures c.in-Wrong.is))
 
-pub loop-i-preserved : goal.loop-i-preserved
-loop-i-preserved c =
-    seek_silent c.args.text.now c.loop-i.i c.loop-i.line c.loop-i.invariant _ (silent_blank c.args.text.now c.loop-i.i c.loop-i-test.true (sym c.is_blank.ensures ∙ c.if-is_blank.true))
+pub loop-spot-smaller : goal.loop-spot-smaller
+loop-spot-smaller c =
+    let s = c.loop-spot in
+    let y : SaysLine c.args.text.now s.spot.place c.token_at-token.result.end = at_line c.args.text.now _ s.invariant.within _ c.token_at-token.ensures c.in-LineEnd.is in
+    omega (arith, y.said.further, y.said.within)
 
-pub returns-else-is_blank : goal.returns-else-is_blank
-returns-else-is_blank c =
-    seek_here c.args.text.now c.loop-i.i c.loop-i.line c.loop-i.invariant c.requires c.loop-i-test.true
-    (ne_eqb _ 35 c.if-b-eq35.false)
-    (ne_eqb _ 10 c.if-b-eq10.false)
-    (sym c.is_blank.ensures ∙ c.if-is_blank.false)
-
-pub returns : goal.returns
-returns c = seek_none c.args.text.now c.loop-i.i c.loop-i.line c.loop-i.invariant c.loop-i-test.false
+pub loop-spot-preserved : goal.loop-spot-preserved
+loop-spot-preserved c =
+    let s = c.loop-spot in
+    seek_line c.args.text.now c.requires s.spot s.invariant _ (at_line c.args.text.now _ s.invariant.within _ c.token_at-token.ensures c.in-LineEnd.is)

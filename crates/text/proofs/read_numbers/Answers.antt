@@ -1,90 +1,69 @@
-use Rattle.std.proofs.Common.{length, refl, sym, ◌∙◌, arith}
-use borrow.Author.Tests.{ne_eqb}
+use Rattle.std.proofs.Common.{◌≡◌, arith}
 use Rattle.numbers.proofs.Signed.{told}
-use Rattle.tokens.proofs.Says.{number_says, Silent, says_line, silent_comment}
-use Rattle.text.proofs.Passing.{found_none, goes_on, read_silent, read_line, read_number, read_else, read_room, read_ends}
+use Rattle.text.proofs.Stepping.{SaysLine, SaysNumber, at_line, at_number, at_wrong, at_none}
+use Rattle.text.proofs.Passing.{read_line, read_number, read_large, read_wrong, read_room, read_none}
 use Rattle.text.proofs.read_numbers.Goals as goal
 
-pub loop-i-init : goal.loop-i-init
-loop-i-init c =
-    record {
-      within = c.requires.within;
-      least = c.requires.least;
-      most = omega arith;
-      fault = found_none 0 _ _ refl;
-      strangers = refl;
-      counted = omega arith;
-      size = refl;
-      noted = refl;
-    }
+pub returns-in-End : goal.returns-in-End
+returns-in-End c =
+    let l = c.loop-tally in
+    let a = c.args in
+    read_none a.text.now a.from a.teams a.kept.now l.spot l.tally l.kept l.invariant c.requires _ (at_none a.text.now _ l.invariant.within _ c.token_at-token.ensures c.in-End.is)
+
+pub loop-tally-smaller-in-LineEnd : goal.loop-tally-smaller-in-LineEnd
+loop-tally-smaller-in-LineEnd c =
+    let l = c.loop-tally in
+    let y : SaysLine c.args.text.now l.spot.place c.token_at-token.result.end = at_line c.args.text.now _ l.invariant.within _ c.token_at-token.ensures c.in-LineEnd.is in
+    omega (arith, y.said.further, y.said.within)
+
+pub loop-tally-preserved-in-LineEnd : goal.loop-tally-preserved-in-LineEnd
+loop-tally-preserved-in-LineEnd c =
+    let l = c.loop-tally in
+    let a = c.args in
+    read_line a.text.now _ a.from a.teams a.kept.now l.spot l.tally l.kept l.invariant _ (at_line a.text.now _ l.invariant.within _ c.token_at-token.ensures c.in-LineEnd.is)
+
+pub returns-in-Number : goal.returns-in-Number
+returns-in-Number c =
+    let l = c.loop-tally in
+    let a = c.args in
+    rw c.refused.ensures
+    (read_large a.text.now _ a.from a.teams a.kept.now l.spot l.tally l.kept l.invariant _ _ (at_number a.text.now _ l.invariant.within _ c.token_at-token.ensures _ c.in-Number.is) c.if-value-gt-LARGEST.true)
 
 -- there is a place for the number
-pub bounds-kept-count : goal.bounds-kept-count
-bounds-kept-count c =
-    let text = c.args.text.now in
-    let l = c.loop-i in
-    let goes = goes_on (length text) l.i l.code c.loop-i-test.true in
-    let says = number_says text l.i goes.0 (sym c.is_numeral.ensures ∙ c.if-is_numeral.true) c.number_at-number.result c.number_at-number.ensures in
-    read_room text c.args.from c.args.on c.args.teams c.args.kept.now l.i l.line l.stranger l.count l.code l.kept l.invariant c.requires c.number_at-number.result says
-
-pub offset_bounds-kept-count : goal.offset_bounds-kept-count
-offset_bounds-kept-count c = omega (arith, bounds-kept-count c, c.loop-i.invariant.size, c.requires.enough)
-
-pub overflow_add-count : goal.overflow_add-count
-overflow_add-count c = omega (arith, bounds-kept-count c, c.loop-i.invariant.size, c.requires.enough)
-
-pub loop-i-smaller-then-is_numeral : goal.loop-i-smaller-then-is_numeral
-loop-i-smaller-then-is_numeral c =
-    let text = c.args.text.now in
-    let goes = goes_on (length text) c.loop-i.i c.loop-i.code c.loop-i-test.true in
-    let says = number_says text c.loop-i.i goes.0 (sym c.is_numeral.ensures ∙ c.if-is_numeral.true) c.number_at-number.result c.number_at-number.ensures in
-    omega (arith, says.said.further, goes.0)
-
-pub loop-i-preserved-then-is_numeral : goal.loop-i-preserved-then-is_numeral
-loop-i-preserved-then-is_numeral c =
-    let text = c.args.text.now in
-    let l = c.loop-i in
+pub bounds-kept-tally : goal.bounds-kept-tally
+bounds-kept-tally c =
+    let l = c.loop-tally in
     let a = c.args in
-    let goes = goes_on (length text) l.i l.code c.loop-i-test.true in
-    let says = number_says text l.i goes.0 (sym c.is_numeral.ensures ∙ c.if-is_numeral.true) c.number_at-number.result c.number_at-number.ensures in
+    read_room a.text.now a.from a.teams a.kept.now l.spot l.tally l.kept l.invariant c.requires _ _ (at_number a.text.now _ l.invariant.within _ c.token_at-token.ensures _ c.in-Number.is)
+
+pub offset_bounds-kept-tally : goal.offset_bounds-kept-tally
+offset_bounds-kept-tally c = omega (arith, bounds-kept-tally c, c.loop-tally.invariant.size, c.requires.enough)
+
+pub note-requires : goal.note-requires
+note-requires c =
+    let l = c.loop-tally in
+    let a = c.args in
+    let room = read_room a.text.now a.from a.teams a.kept.now l.spot l.tally l.kept l.invariant c.requires _ _ (at_number a.text.now _ l.invariant.within _ c.token_at-token.ensures _ c.in-Number.is) in
+    omega (arith, room, l.invariant.size, c.requires.enough)
+
+pub loop-tally-smaller : goal.loop-tally-smaller
+loop-tally-smaller c =
+    let l = c.loop-tally in
+    let y : SaysNumber c.args.text.now l.spot.place c.in-Number.value c.token_at-token.result.end = at_number c.args.text.now _ l.invariant.within _ c.token_at-token.ensures _ c.in-Number.is in
+    omega (arith, y.said.further, y.said.within)
+
+pub loop-tally-preserved : goal.loop-tally-preserved
+loop-tally-preserved c =
+    let l = c.loop-tally in
+    let a = c.args in
+    let same : c.in-Number-2.value ≡ c.in-Number.value = cc in
     rw
-    (told c.to_signed.result c.to_signed.type_inv, c.to_signed.ensures, c.stranger_after-stranger.ensures, c.pick-code.ensures)
-    (read_number text _ a.from a.on a.teams a.kept.now l.i l.line l.stranger l.count l.code l.kept l.invariant goes.1 c.number_at-number.result says)
+    (told c.to_signed.result c.to_signed.type_inv, c.to_signed.ensures, c.note.ensures, same)
+    (read_number a.text.now _ a.from a.teams a.kept.now l.spot l.tally l.kept l.invariant _ _ (at_number a.text.now _ l.invariant.within _ c.token_at-token.ensures _ c.in-Number.is) c.if-value-gt-LARGEST.false)
 
-pub loop-i-smaller-then-b-eq35 : goal.loop-i-smaller-then-b-eq35
-loop-i-smaller-then-b-eq35 c =
-    let goes = goes_on (length c.args.text.now) c.loop-i.i c.loop-i.code c.loop-i-test.true in
-    let passed : Silent c.args.text.now c.loop-i.i c.comment_end-i.result =
-    rw c.comment_end-i.ensures (silent_comment c.args.text.now c.loop-i.i goes.0 c.if-b-eq35.true) in
-    omega (arith, passed.further, goes.0)
-
-pub loop-i-preserved-then-b-eq35 : goal.loop-i-preserved-then-b-eq35
-loop-i-preserved-then-b-eq35 c =
-    let l = c.loop-i in
+pub returns-in-Wrong : goal.returns-in-Wrong
+returns-in-Wrong c =
+    let l = c.loop-tally in
     let a = c.args in
-    let goes = goes_on (length c.args.text.now) c.loop-i.i c.loop-i.code c.loop-i-test.true in
-    let passed : Silent c.args.text.now c.loop-i.i c.comment_end-i.result =
-    rw c.comment_end-i.ensures (silent_comment c.args.text.now c.loop-i.i goes.0 c.if-b-eq35.true) in
-    read_silent a.text.now _ a.from a.on a.teams a.kept.now l.i l.line l.stranger l.count l.code l.kept l.invariant _ passed
-
-pub loop-i-preserved-then-b-eq10 : goal.loop-i-preserved-then-b-eq10
-loop-i-preserved-then-b-eq10 c =
-    let l = c.loop-i in
-    let a = c.args in
-    let goes = goes_on (length a.text.now) l.i l.code c.loop-i-test.true in
-    read_line a.text.now _ a.from a.on a.teams a.kept.now l.i l.line l.stranger l.count l.code l.kept l.invariant goes.1 _ _ (says_line a.text.now l.i goes.0 c.if-b-eq10.true)
-
-pub loop-i-preserved : goal.loop-i-preserved
-loop-i-preserved c =
-    let l = c.loop-i in
-    let a = c.args in
-    let goes = goes_on (length a.text.now) l.i l.code c.loop-i-test.true in
-    rw
-    (c.pick-code-else-b-eq10.ensures, c.is_blank.ensures)
-    (read_else a.text.now _ a.from a.on a.teams a.kept.now l.i l.line l.stranger l.count l.code l.kept l.invariant goes.1 goes.0 (sym c.is_numeral.ensures ∙ c.if-is_numeral.false) (ne_eqb _ 35 c.if-b-eq35.false) (ne_eqb _ 10 c.if-b-eq10.false))
-
-pub returns : goal.returns
-returns c =
-    let l = c.loop-i in
-    let s = c.args in
-    read_ends s.text.now s.from s.on s.teams s.kept.now l.i l.line l.stranger l.count l.code l.kept l.invariant c.requires c.loop-i-test.false _ c.ruled_by.ensures
+    rw c.refused-in-Wrong.ensures
+    (read_wrong a.text.now _ a.from a.teams a.kept.now l.spot l.tally l.kept l.invariant _ (at_wrong a.text.now _ l.invariant.within _ c.token_at-token.ensures c.in-Wrong.is))

@@ -1,11 +1,11 @@
--- Each number is counted, judged and kept, up to a byte with 22 or 23.
+-- Each number is counted, judged and kept.
 use Rattle.std.proofs.Common.{◌-◌, length, drop}
 use Rattle.text_rules.specs.Marks.{marks}
 use Rattle.text.proofs.Passing.{Reading}
 use Rattle.text.proofs.read_numbers.Given as goal
 
-abbrev pub invariant-loop-i : goal.invariant-loop-i
-invariant-loop-i l = Reading l.text (marks (drop l.from l.text)) l.from l.on l.teams l.initial.kept l.i l.line l.stranger l.count l.code l.kept
+abbrev pub invariant-loop-tally : goal.invariant-loop-tally
+invariant-loop-tally l = Reading l.text (marks (drop l.fn.from.place l.text)) l.fn.from l.teams l.initial.kept l.spot l.tally l.kept
 
-abbrev pub decreases-loop-i : goal.decreases-loop-i
-decreases-loop-i l = length l.text - l.i
+abbrev pub decreases-loop-tally : goal.decreases-loop-tally
+decreases-loop-tally l = length l.text - l.spot.place

@@ -1,52 +1,37 @@
-use Rattle.std.proofs.Common.{length, refl, sym, ◌∙◌, arith, rules}
-use borrow.Author.Tests.{ne_eqb}
-use Rattle.tokens.proofs.Says.{number_says, Silent, says_line, silent_comment}
-use Rattle.text.proofs.Passing.{found_none, goes_on, row_silent, row_number, row_else, row_line, row_ends}
+use Rattle.std.proofs.Common.{◌≡◌, arith, inl, inr}
+use Rattle.text.proofs.Stepping.{SaysNumber, at_line, at_number, at_wrong, at_none}
+use Rattle.text.proofs.Passing.{row_number, row_large, row_wrong, row_line, row_none}
 use Rattle.text.proofs.read_row.Goals as goal
 
-pub loop-i-init : goal.loop-i-init
-loop-i-init c =
-    record { within = search rules; size = omega arith; fault = λ on. found_none 0 on _ refl; counted = omega arith; noted = refl; after = refl; left = refl }
+pub returns-in-End : goal.returns-in-End
+returns-in-End c =
+    let l = c.loop-row in
+    elim c.in-End.is [
+      | inl e ↦ row_none c.args.text.now c.args.head l.row l.invariant _ (at_none c.args.text.now _ l.invariant.within _ c.token_at-token.ensures e)
+      | inr e ↦ row_line c.args.text.now c.args.head l.row l.invariant _ (at_line c.args.text.now _ l.invariant.within _ c.token_at-token.ensures e)
+    ]
 
-pub loop-i-smaller-then-is_numeral : goal.loop-i-smaller-then-is_numeral
-loop-i-smaller-then-is_numeral c =
-    let goes = goes_on (length c.args.text.now) c.loop-i.i c.loop-i.code c.loop-i-test.true in
-    let says = number_says c.args.text.now c.loop-i.i goes.0 (sym c.is_numeral.ensures ∙ c.if-is_numeral.true) c.number_at-number.result c.number_at-number.ensures in
-    omega (arith, says.said.further, goes.0)
+pub returns-in-Number : goal.returns-in-Number
+returns-in-Number c =
+    let l = c.loop-row in
+    rw c.refused.ensures
+    (row_large c.args.text.now _ _ l.row l.invariant _ _ (at_number c.args.text.now _ l.invariant.within _ c.token_at-token.ensures _ c.in-Number.is) c.if-value-gt-LARGEST.true)
 
-pub loop-i-preserved-then-is_numeral : goal.loop-i-preserved-then-is_numeral
-loop-i-preserved-then-is_numeral c =
-    let goes = goes_on (length c.args.text.now) c.loop-i.i c.loop-i.code c.loop-i-test.true in
-    let says = number_says c.args.text.now c.loop-i.i goes.0 (sym c.is_numeral.ensures ∙ c.if-is_numeral.true) c.number_at-number.result c.number_at-number.ensures in
-    rw
-    (c.noted-more.ensures, c.pick-code.ensures)
-    (row_number c.args.text.now _ c.loop-i.i c.loop-i.count c.loop-i.first c.loop-i.code c.loop-i.invariant goes.1 c.number_at-number.result says)
+pub returns-in-Wrong : goal.returns-in-Wrong
+returns-in-Wrong c =
+    let l = c.loop-row in
+    rw c.refused-in-Wrong.ensures
+    (row_wrong c.args.text.now _ _ l.row l.invariant _ (at_wrong c.args.text.now _ l.invariant.within _ c.token_at-token.ensures c.in-Wrong.is))
 
-pub loop-i-smaller-then-b-eq35 : goal.loop-i-smaller-then-b-eq35
-loop-i-smaller-then-b-eq35 c =
-    let goes = goes_on (length c.args.text.now) c.loop-i.i c.loop-i.code c.loop-i-test.true in
-    let passed : Silent c.args.text.now c.loop-i.i c.comment_end-i.result =
-    rw c.comment_end-i.ensures (silent_comment c.args.text.now c.loop-i.i goes.0 c.if-b-eq35.true) in
-    omega (arith, passed.further, goes.0)
+pub loop-row-smaller : goal.loop-row-smaller
+loop-row-smaller c =
+    let l = c.loop-row in
+    let y : SaysNumber c.args.text.now l.row.end c.in-Number-2.value c.token_at-token.result.end = at_number c.args.text.now _ l.invariant.within _ c.token_at-token.ensures _ c.in-Number-2.is in
+    rw c.note.ensures (omega (arith, y.said.further, y.said.within))
 
-pub loop-i-preserved-then-b-eq35 : goal.loop-i-preserved-then-b-eq35
-loop-i-preserved-then-b-eq35 c =
-    let goes = goes_on (length c.args.text.now) c.loop-i.i c.loop-i.code c.loop-i-test.true in
-    let passed : Silent c.args.text.now c.loop-i.i c.comment_end-i.result =
-    rw c.comment_end-i.ensures (silent_comment c.args.text.now c.loop-i.i goes.0 c.if-b-eq35.true) in
-    row_silent c.args.text.now _ c.loop-i.i c.loop-i.count c.loop-i.first c.loop-i.code c.loop-i.invariant _ passed
-
-pub returns-then-b-eq10 : goal.returns-then-b-eq10
-returns-then-b-eq10 c =
-    let goes = goes_on (length c.args.text.now) c.loop-i.i c.loop-i.code c.loop-i-test.true in
-    row_line c.args.text.now _ c.loop-i.i c.loop-i.count c.loop-i.first c.loop-i.code c.loop-i.invariant goes.1 (says_line c.args.text.now c.loop-i.i goes.0 c.if-b-eq10.true)
-
-pub loop-i-preserved : goal.loop-i-preserved
-loop-i-preserved c =
-    let goes = goes_on (length c.args.text.now) c.loop-i.i c.loop-i.code c.loop-i-test.true in
-    rw
-    (c.pick-code-else-b-eq10.ensures, c.is_blank.ensures)
-    (row_else c.args.text.now _ c.loop-i.i c.loop-i.count c.loop-i.first c.loop-i.code c.loop-i.invariant goes.1 goes.0 (sym c.is_numeral.ensures ∙ c.if-is_numeral.false) (ne_eqb _ 35 c.if-b-eq35.false) (ne_eqb _ 10 c.if-b-eq10.false))
-
-pub returns : goal.returns
-returns c = row_ends c.args.text.now _ c.loop-i.i c.loop-i.count c.loop-i.first c.loop-i.code c.loop-i.invariant c.loop-i-test.false
+pub loop-row-preserved : goal.loop-row-preserved
+loop-row-preserved c =
+    let l = c.loop-row in
+    let same : c.in-Number-2.value ≡ c.in-Number.value = cc in
+    rw (c.note.ensures, same)
+    (row_number c.args.text.now _ _ l.row l.invariant _ _ (at_number c.args.text.now _ l.invariant.within _ c.token_at-token.ensures _ c.in-Number.is) c.if-value-gt-LARGEST.false)

@@ -1,11 +1,11 @@
--- Each number of the line is noted; the line's end ends the row, and so does a byte with 22 or 23.
+-- Each number of the line is noted.
 use Rattle.std.proofs.Common.{◌-◌, length, drop}
 use Rattle.text_rules.specs.Marks.{marks}
 use Rattle.text.proofs.Passing.{Rowing}
 use Rattle.text.proofs.read_row.Given as goal
 
-abbrev pub invariant-loop-i : goal.invariant-loop-i
-invariant-loop-i l = Rowing l.text (marks (drop l.from l.text)) l.i l.count l.first l.code
+abbrev pub invariant-loop-row : goal.invariant-loop-row
+invariant-loop-row l = Rowing l.text l.head.line (marks (drop l.head.place l.text)) l.row
 
-abbrev pub decreases-loop-i : goal.decreases-loop-i
-decreases-loop-i l = length l.text - l.i
+abbrev pub decreases-loop-row : goal.decreases-loop-row
+decreases-loop-row l = length l.text - l.row.end

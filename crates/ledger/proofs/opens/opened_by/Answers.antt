@@ -10,4 +10,4 @@ returns c =
     let o = c.args.o in
     let a = natural_held o.start _ (search rules) c.natural-start.ensures in
     let small = rw a at (start_small o c.requires) in
-    opened_made o _ _ _ _ _ _ a (natural_held o.until _ (search rules) c.natural-until.ensures) (natural_held o.teams _ (search rules) c.natural-teams.ensures) (natural_held o.nodes _ (search rules) c.natural-room.ensures) (c.fresh_node-root.ensures ∙ fresh_within _ _ small) c.blank_table-nodes.ensures
+    opened_made o _ _ _ _ _ _ a (natural_held o.until _ (search rules) c.natural-until.ensures) (natural_held o.teams _ (search rules) c.natural-teams.ensures) (natural_held o.nodes _ (search rules) c.natural-room.ensures) (c.fresh_node.ensures ∙ fresh_within _ _ small) c.blank_table-nodes.ensures

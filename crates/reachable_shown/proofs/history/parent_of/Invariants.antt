@@ -1,6 +1,0 @@
--- The loop goes over the seven nodes.
-use Rattle.std.proofs.Common.{◌-◌}
-use Rattle.reachable_shown.proofs.history.parent_of.Given as goal
-
-abbrev pub decreases-loop-n : goal.decreases-loop-n
-decreases-loop-n l = 8 - l.n

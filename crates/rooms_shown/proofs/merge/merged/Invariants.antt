@@ -1,6 +1,0 @@
--- The loop goes over the six calls.
-use Rattle.std.proofs.Common.{◌-◌}
-use Rattle.rooms_shown.proofs.merge.merged.Given as goal
-
-abbrev pub decreases-loop-i : goal.decreases-loop-i
-decreases-loop-i l = 6 - l.i

@@ -1,6 +1,0 @@
--- The loop goes over the slots of the table.
-use Rattle.std.proofs.Common.{◌-◌}
-use Rattle.rooms_shown.proofs.same.same_nodes.Given as goal
-
-abbrev pub decreases-loop-i : goal.decreases-loop-i
-decreases-loop-i l = 1023 - l.i

@@ -1,2 +1,0 @@
--- What the step over lent records needs of the definitions.
-pub mod Laws

@@ -1,2 +1,0 @@
--- What the program asks of a scanner.
-pub mod First

@@ -1,0 +1,2 @@
+-- What room the program lends.
+pub mod Rooms

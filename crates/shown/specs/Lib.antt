@@ -1,0 +1,2 @@
+-- What the makers of ledgers and nodes give.
+pub mod Tables
