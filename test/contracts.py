@@ -2,9 +2,9 @@
 
     python3 test/contracts.py
 
-A public function of a library has no `requires` and an `ensures` that is an equation; one whose `requires` or `ensures` has a condition is
-named in the section "Contracts under a condition", on a line '- crate::fn: why', and no other function is. Each call that
-docs/CONTRACTS.md names is there, and each must-fail edit that a page of docs/ names. Exit status 1 if something is not so.
+A public function of a library, or a method of a public trait, has no `requires` and an `ensures` that is an equation; one whose `requires`
+or `ensures` has a condition is named in the section "Contracts under a condition", on a line '- crate::fn: why', and no other function is.
+Each call that docs/CONTRACTS.md names is there, and each must-fail edit that a page of docs/ names. Exit status 1 if something is not so.
 """
 
 import glob
@@ -92,23 +92,25 @@ def functions():
 
 
 def functions_in(crate, lines):
-    found, of_type = [], ''
+    found, of_type, in_trait = [], '', False
     for at, line in enumerate(lines):
-        block = re.match(r'impl(?:<[^>]*>)?\s+(\w+)', line)
+        block = re.match(r'(pub trait|impl(?:<[^>]*>)?)\s+(\w+)', line)
         if block or line == '}':
-            of_type = block.group(1) + '::' if block else ''
-        opened = re.match(r'\s*pub (?:unsafe )?(?:extern "C" )?fn (\w+)', line)
+            of_type = block.group(2) + '::' if block else ''
+            in_trait = block is not None and block.group(1) == 'pub trait'
+        opened = re.match(r'\s*pub (?:unsafe )?(?:extern "C" )?fn (\w+)', line) or (in_trait and re.match(r'\s*(?:final )?fn (\w+)', line))
         if opened:
             found.append(Function(crate, of_type + opened.group(1), header_from(lines[at:])))
     return found
 
 
 def header_from(lines):
-    """The function up to its body: a line that is, or ends in, an opening brace which no line of a contract closes."""
+    """The function up to its body, a line that is, or ends in, an opening brace which no line of a contract closes; or up to its end, where a
+    trait's method has no body."""
     header = []
     for line in lines:
         header.append(line)
-        if line.strip() == '{' or (line.endswith('{') and not re.match(r'\s*(ensures|requires)\b', line)):
+        if line.strip() == '{' or line.endswith(';') or (line.endswith('{') and not re.match(r'\s*(ensures|requires)\b', line)):
             break
     return '\n'.join(header)
 

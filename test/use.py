@@ -136,15 +136,22 @@ def writing(name, words, failed):
         hold(name + ', a closed output', words, failed, None, 'sheets: writing', stdin=text, stdout=None, preexec_fn=closed(1))
 
 
-def interruptions(room):
-    """The program with a read and a write that are interrupted and move few bytes at a time."""
+def preloaded(room, name):
+    """The environment in which the calls of test/NAME.c stand in the place of the C library's."""
     tools = subprocess.run(['bash', '-c', '. test/kit.sh && echo "$kit_tools"'], cwd=HERE, check=True, capture_output=True, text=True).stdout.strip()
-    made, library = os.path.join(room, 'interrupted.o'), os.path.join(room, 'interrupted.so')
+    made, library = os.path.join(room, name + '.o'), os.path.join(room, name + '.so')
     subprocess.run([tools + '/bin/clang', '--target=x86_64-unknown-linux-gnu', '-Wall', '-Wextra', '-Werror', '-O2', '-fPIC', '-c', '-o', made,
-                    os.path.join(HERE, 'test', 'interrupted.c')], check=True)
+                    os.path.join(HERE, 'test', name + '.c')], check=True)
     subprocess.run([tools + '/bin/ld.lld', '-shared', '-o', library, made], check=True)
+    return {**os.environ, 'LD_PRELOAD': library}
+
+
+def other_calls(room):
+    """The program with a read and a write that are interrupted and move few bytes at a time, and with a write that takes nothing."""
     with open(os.path.join(HERE, 'examples', 'class-of-eight.txt'), 'rb') as text:
-        hold('interrupted calls', BARE, 0, LISTING, None, stdin=text, env={**os.environ, 'LD_PRELOAD': library})
+        hold('interrupted calls', BARE, 0, LISTING, None, stdin=text, env=preloaded(room, 'interrupted'))
+        text.seek(0)
+        hold('an output that takes nothing', BARE, 1, b'', 'sheets: writing: write zero', stdin=text, env=preloaded(room, 'takes_nothing'))
 
 
 def small_stack():
@@ -271,7 +278,7 @@ def main():
         reading('the program', BARE, 0, 1)
         writing('the program', BARE, 1)
         hold('an argument', WRAPPER + ['examples/two-teams.txt'], 2, b'', 'sheets: it takes no argument')
-        interruptions(room)
+        other_calls(room)
         small_stack()
         links(room)
         proofs(room)

@@ -13,11 +13,12 @@ pub fn none() -> Finds
     Finds::default()
 }
 
+// Three tests without a branch between them, as in `nodes::formed::blank_ok`, which a scan of unused slots calls.
 #[tactic(auto, unfolding(rules::specs::Joining::same_finds))]
 pub fn is_none(f: Finds) -> bool
     ensures { result ≡ is_none f }
 {
-    f == none()
+    (f.count == 0) & (f.first == 0) & (f.last == 0)
 }
 
 // Whether a result that is kept could have been reported.

@@ -1,6 +1,6 @@
 -- The rules of a table, from one walk over the nodes in use and one over the unused slots; over plain variables.
 use mathlib.Core.Path.{◌≡◌, refl, sym, ap, ap₂, subst, ◌∙◌}
-use mathlib.Core.Bool.{Bool, true, false, cond, ◌&&◌, and-false, false-and, and_assoc}
+use mathlib.Core.Bool.{false≢true, Bool, true, false, cond, ◌&&◌, and-false, false-and, and_assoc}
 use mathlib.Core.List.{List}
 use Prim.Native.Nat.{ℕ, ◌+◌, ◌*◌, ◌/◌, ◌%◌, ◌≤◌, ◌<◌, min}
 use native.Mathlib.Decide.{ℕ_discrete, dec_le}
@@ -95,6 +95,18 @@ module _ (l : Ledger) where
       go : (n : ℕ) → 1 ≤ n → Dec (n ≤ k) → unused_rule l n ≡ true
       go n low (yes q) = (up_to_t (unused_rule l) k).0 (sym e) n low q
       go n low (no q) = (unused_t l n).1 (λ u. rest n (omega arith))
+
+  -- so what the first k slots gave is what all give
+  pub blank_end : (s k : ℕ) → ((n : ℕ) → s < n → at l n ≡ blank) → s ≤ k → (b : Bool) → (b ≡ false → k ≤ max_nodes) → b ≡ up_to (unused_rule l) k → b ≡ up_to (unused_rule l) max_nodes
+  blank_end s k rest h true small e = blank_all s k rest h e
+  blank_end s k rest h false small e = go (up_to (unused_rule l) max_nodes) refl
+    where
+      go : (t : Bool) → up_to (unused_rule l) max_nodes ≡ t → false ≡ t
+      go false f = refl
+      go true f =
+          let front : up_to (unused_rule l) k ≡ true =
+          (up_to_t (unused_rule l) k).1 (λ n low high. (up_to_t (unused_rule l) max_nodes).0 f n low (omega (arith, high, small refl))) in
+          absurd (false≢true (e ∙ front))
 
   -- ---- where a test fails, nothing was counted
 

@@ -12,8 +12,10 @@ use crate::{Head, node_at};
 use rules::{Ledger, Node, Opening, View};
 
 pub trait Table {
-    // The ledger that the table stands for.
+    // The ledger that the table stands for, and how many slots are the table's own.
     ghost ledger: { Self → Ledger };
+
+    ghost own_slots: { Self → ℕ };
 
     fn head(&self) -> Head
         ensures { result ≡ head_of (ledger self.now) };
@@ -24,6 +26,7 @@ pub trait Table {
 
     // How many slots are the table's own.
     fn slots(&self) -> u32
+        ensures value { result ≡ own_slots self.now }
         ensures small { result ≤ max_nodes }
         ensures past { (n : ℕ) → result < n → at (ledger self.now) n ≡ blank };
 
@@ -83,6 +86,8 @@ fn slots_of(nodes: &[Node; Opening::NODES]) -> u32
 
 impl Table for Ledger {
     ghost ledger = { λ l. l };
+
+    ghost own_slots = { λ l. max_nodes };
 
     fn head(&self) -> Head {
         Head {

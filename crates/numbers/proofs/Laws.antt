@@ -1,13 +1,30 @@
 -- Laws of the definitions, over plain variables: what a test on a signed number tells.
 use mathlib.Core.Path.{◌≡◌, refl, ap}
-use mathlib.Core.Bool.{Bool, true, false, ◌&&◌, false≢true}
+use mathlib.Core.Bool.{Bool, true, false, ◌&&◌, false≢true, true≢false}
 use Prim.Native.Nat.{ℕ, ◌≤◌}
 use native.Mathlib.Omega.{arith}
 use lib.Dec.{leb}
 use lib.IntN.{ℤ, pos, negsuc}
 use borrow.Author.Tests.{eqb-true, eq-eqb, le-leb, leb-true}
-use Rattle.numbers.specs.Progress.{signed}
+use Rattle.numbers.specs.Progress.{negative, position, mark, signed}
 use Rattle.numbers.specs.Fields.{is_nat, within, same_number, nat_of}
+
+-- a mark is read back exactly, and is never a position
+pub mark_read : (p : ℕ) → position (mark (pos p)) ≡ p
+mark_read p = refl
+
+pub mark_negative : (z : ℤ) → negative (mark z) ≡ true
+mark_negative (pos p) = refl
+mark_negative (negsuc p) = refl
+
+-- a progress is its position, or the mark of it
+pub unmarked : (z : ℤ) → negative z ≡ false → z ≡ pos (position z)
+unmarked (pos n) e = refl
+unmarked (negsuc n) e = absurd (true≢false e)
+
+pub marked : (z : ℤ) → negative z ≡ true → z ≡ negsuc (position z)
+marked (pos n) e = absurd (false≢true e)
+marked (negsuc n) e = refl
 
 pub signed_is : (n : ℕ) → n ≤ 2147483647 → signed n ≡ pos n
 signed_is n h = ap pos (omega arith)
@@ -43,3 +60,7 @@ same_true (pos m) (pos n) e = ap pos (eqb-true m n e)
 same_true (pos m) (negsuc n) e = absurd (false≢true e)
 same_true (negsuc m) (pos n) e = absurd (false≢true e)
 same_true (negsuc m) (negsuc n) e = ap negsuc (eqb-true m n e)
+
+pub same_made : (a : ℤ) → same_number a a ≡ true
+same_made (pos m) = eq-eqb m m refl
+same_made (negsuc m) = eq-eqb m m refl

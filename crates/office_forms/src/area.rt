@@ -57,6 +57,8 @@ impl<'a> Area<'a> {
 impl<'a> Table for Area<'a> {
     ghost ledger = { λ a. decoded a.bytes.now };
 
+    ghost own_slots = { λ a. a.head.room };
+
     #[tactic(auto, using(crate::proofs::Table::head_is))]
     fn head(&self) -> Head {
         self.head

@@ -49,16 +49,7 @@ fn split(rt: &impl Print) -> io::Result<()> {
 
 // A request of a kind that does not exist, with anything in its other fields.
 fn unknown(kind: i32, team: i32, node: i32) -> Request {
-    Request {
-        kind,
-        team,
-        node,
-        position: i32::MIN,
-        amount: i32::MAX,
-        count: -1,
-        first: i32::MIN,
-        last: i32::MAX,
-    }
+    Request::new(kind, team, node, i32::MIN, i32::MAX, -1, i32::MIN, i32::MAX)
 }
 
 // Refused calls, with kinds that do not exist, and the answer 16 of a second split.

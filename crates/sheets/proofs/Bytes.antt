@@ -14,9 +14,9 @@ use Rattle.rules.specs.declared.refusal.Refusal.{Refusal}
 use Rattle.std.specs.Prelude.{Ok, Err, IfOk, MatchResult}
 use Rattle.std.specs.Result.{result_unwrap_or, is_ok}
 use mathlib.Core.Bool.{true≢false}
-use Rattle.listing_rules.specs.Lent.{Listed, room_for, told, answer_to, out_after}
+use Rattle.listing_rules.specs.Lent.{Listed, told, answer_to, out_after}
 use Rattle.listing_rules.specs.Listing.{listing_of}
-use Rattle.listing_rules.specs.Demands.{StandsIn}
+use Rattle.listing_rules.specs.Demands.{StandsIn, listing_room, short_schedule_room, short_listing_room}
 use Rattle.sheets.specs.Rooms.{Enough}
 use Rattle.listing_rules.proofs.Demands.{prints_the_listing, prints_the_same}
 
@@ -75,16 +75,17 @@ length_told (Err e) = refl
 
 -- in areas that are enough the whole listing stands
 whole_in : (n room : ℕ) (text out : List ℕ) → room ≡ length out → Enough n room text → take (answer_to n text (length out)).length (out_after n text out) ≡ listing_of text
-whole_in n room text out f e = by e.numbers
+whole_in n room text out f e = by e.lent
   where
-    bytes : room_for n ≤ length out
-    bytes = rw f at e.bytes
-
-    by : (n ≡ schedule_room) ⊎ ((n ≤ schedule_room) × (length text < 2 * n)) → take (answer_to n text (length out)).length (out_after n text out) ≡ listing_of text
-    by (inl all) =
-        subst (λ k. room_for k ≤ length out → take (answer_to k text (length out)).length (out_after k text out) ≡ listing_of text) (sym all)
-        (λ h. listing_at_front out _ _ _ (prints_the_listing text out h)) bytes
-    by (inr short) = listing_at_front out _ _ _ (prints_the_same n text out short.0 short.1 bytes)
+    by : ((n ≡ schedule_room) × (room ≡ listing_room)) ⊎ ((n ≡ short_schedule_room) × (room ≡ short_listing_room) × (length text < 2 * n))
+        → take (answer_to n text (length out)).length (out_after n text out) ≡ listing_of text
+    by (inl (all, most)) =
+        let long : listing_room ≤ length out = omega (arith, f, most) in
+        rw all (listing_at_front out _ _ _ (prints_the_listing text out long))
+    by (inr (few, least, short)) =
+        let long : short_listing_room ≤ length out = omega (arith, f, least) in
+        let less : length text < 2 * short_schedule_room = rw few at short in
+        rw few (listing_at_front out _ _ _ (prints_the_same short_schedule_room text out (omega arith) less long))
 
 pub listed : (n steps room : ℕ) (text out : List ℕ) → n ≡ steps → room ≡ length out → Enough n room text
     → take (answer_to steps text (length out)).length (out_after steps text out) ≡ listing_of text

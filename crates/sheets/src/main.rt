@@ -50,6 +50,14 @@ fn read_all<R: Read>(input: &mut R, area: &mut [u8]) -> io::Result<usize>
     Err(io::Error::from(ErrorKind::Interrupted))
 }
 
+// An output that takes none of the bytes is told by its kind alone.
+fn by_its_kind(e: io::Error) -> io::Error {
+    if e.kind() == ErrorKind::WriteZero {
+        return io::Error::from(ErrorKind::WriteZero);
+    }
+    e
+}
+
 // Lists the text in the areas that are lent, and writes the listing out.
 fn print_listing<W: Write>(
     output: &mut W,
@@ -64,7 +72,7 @@ fn print_listing<W: Write>(
     // A call that is refused lists nothing.
     let length = listing::list(text, schedule, out).unwrap_or(0);
     let listing = &out[..length];
-    output.write_all(listing)
+    output.write_all(listing).map_err(by_its_kind)
 }
 
 // Lists the text in areas of these lengths. Each length has a frame of its own, so that a short text does not pay for the large areas.

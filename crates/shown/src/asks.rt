@@ -37,12 +37,16 @@ pub fn look(team: i32, node: i32) -> Request
 pub fn report(team: i32, node: i32, count: i32, first: i32, last: i32) -> Request
     ensures { result ≡ request (pos REPORT) team node (pos 0) (pos 0) count first last }
 {
-    Request {
+    Request::new(
+        i32::from(Kind::Report),
+        team,
+        node,
+        0,
+        0,
         count,
         first,
         last,
-        ..Request::plain(Kind::Report, team, node, 0, 0)
-    }
+    )
 }
 
 pub fn push(team: i32, node: i32) -> Request

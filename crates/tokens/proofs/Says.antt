@@ -15,10 +15,11 @@ use Rattle.std.specs.Option.{option_eq}
 use Rattle.std.specs.Slice.{IsItemAt}
 use Rattle.std.specs.List.{prefix_len, take_while}
 use Rattle.std.proofs.lemmas.List.Sums.{take_while-cons, prefix_len-le-length, prefix_len_stops}
+use Rattle.std.proofs.lemmas.List.Folds.{length-prefix_len}
 use Rattle.text_rules.specs.Bytes.{is_numeral, is_blank}
 use Rattle.text_rules.specs.Marks.{line_end, number, wrong, starts_digit, longer, marks_from, marks}
 use Rattle.text_rules.proofs.Marks.{at_byte, passed_over}
-use Rattle.tokens.specs.Scan.{in_line, Silent}
+use Rattle.tokens.specs.Scan.{in_line, comment_end, Silent}
 use Rattle.tokens.proofs.Classes.{class_numeral, class_line, class_hash, class_blank, class_other, numeral_digit}
 
 -- ---- a number
@@ -106,6 +107,13 @@ pub rest_is : (bytes : List ℕ) (n : ℕ) → take (length bytes - n) (drop n b
 rest_is bytes n =
     let size : length (drop n bytes) ≡ length bytes - n = length-drop n bytes in
     take_all _ _ (omega (arith, size))
+
+-- how far a line goes from a place, by the bytes that are left there
+pub ends_line : (text rest : List ℕ) (from k : ℕ) → rest ≡ drop from text → k ≡ prefix_len in_line rest → from + k ≡ comment_end text from
+unfolding comment_end
+ends_line text rest from k e f =
+    let size : length (take_while in_line (drop from text)) ≡ prefix_len in_line (drop from text) = length-prefix_len in_line (drop from text) in
+    rw (size, f, e)
 
 pub silent_blanks : (bytes : List ℕ) (n : ℕ) → n ≡ prefix_len is_blank bytes → (n < length bytes → eqb (get_or bytes n 0) 35 ≡ false) → Silent bytes n
 silent_blanks bytes n e h =

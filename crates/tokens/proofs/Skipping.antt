@@ -14,7 +14,7 @@ use Rattle.text_rules.specs.Bytes.{is_numeral, is_blank}
 use Rattle.text_rules.specs.Marks.{starts_digit}
 use Rattle.text_rules.specs.Tokens.{token_by, token_of, token_at}
 use Rattle.text_rules.proofs.Marks.{at_end}
-use Rattle.tokens.specs.Scan.{Skipped, number_at}
+use Rattle.tokens.specs.Scan.{Skipped, number_token}
 use Rattle.tokens.proofs.Classes.{numeral_digit}
 use Rattle.tokens.proofs.Says.{run_says, says_line, says-wrong}
 
@@ -31,7 +31,7 @@ module _ (text : List ℕ) (place at : ℕ) (s : Skipped text place at) where
   unfolding token_at token_of
   token_none h = rw (← s.same, at_end text at false h)
 
-  pub token_number : at < length text → is_numeral (get_or text at 0) ≡ true → number_at text at ≡ token_at text place
+  pub token_number : at < length text → is_numeral (get_or text at 0) ≡ true → number_token text at ≡ token_at text place
   unfolding token_at token_of
   token_number h e =
       let bs = drop at text in

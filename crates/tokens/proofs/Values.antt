@@ -10,11 +10,12 @@ use borrow.Author.Tests.{lt-ltb, leb-false}
 use Rattle.std.proofs.lemmas.Bool.{lt-leb}
 use Rattle.std.specs.List.{fold, take_while}
 use Rattle.std.proofs.lemmas.List.Folds.{length-prefix_len}
+use Rattle.std.proofs.lemmas.List.{drop_all}
 use Rattle.text_rules.specs.declared.Kind.TheVariants as kind
 use Rattle.text_rules.specs.Bytes.{is_numeral}
 use Rattle.text_rules.specs.Tokens.{token_by}
 use Rattle.text_rules.specs.Digits.{max_digits, max_number, refused_number, value_from, value, too_large, number_of}
-use Rattle.tokens.specs.Scan.{with_digit, Run, read_as, number_at}
+use Rattle.tokens.specs.Scan.{with_digit, Run, read_as, number_token, number_at}
 
 -- v stands for x: it is x, or both are too large
 data Stands : ℕ → ℕ → Type 0 where
@@ -52,5 +53,24 @@ read_run : (bytes : List ℕ) (r : ℕ × ℕ) → Run bytes r → read_as r.0 r
 read_run bytes r d = let size : r.0 ≡ length (take_while is_numeral bytes) = d.count ∙ sym (length-prefix_len is_numeral bytes) in
     rw (size, d.value) (sym (read_number (take_while is_numeral bytes)))
 
-pub run_token : (text : List ℕ) (from : ℕ) (r : ℕ × ℕ) → Run (drop from text) r → token_by (kind.Number (read_as r.0 r.1)) (from + r.0) ≡ number_at text from
+pub run_token : (text : List ℕ) (from : ℕ) (r : ℕ × ℕ) → Run (drop from text) r → token_by (kind.Number (read_as r.0 r.1)) (from + r.0) ≡ number_token text from
 run_token text from r d = rw (read_run (drop from text) r d, d.count)
+
+-- a run that is read as this value up to this place is the number there
+pub run_number : (text : List ℕ) (from : ℕ) (r : ℕ × ℕ) (v e : ℕ) → Run (drop from text) r → v ≡ read_as r.0 r.1 → e ≡ from + r.0
+    → record { value = v; end = e } ≡ number_at text from
+unfolding number_at
+run_number text from r v e d f g =
+    let size : r.0 ≡ length (take_while is_numeral (drop from text)) = d.count ∙ sym (length-prefix_len is_numeral (drop from text)) in
+    rw (f, g, read_run (drop from text) r d, size)
+
+empty_run : take_while is_numeral [] ≡ []
+empty_run = refl
+
+-- past the text there is none
+pub no_number : (text : List ℕ) (from : ℕ) → length text < from → record { value = 0; end = from } ≡ number_at text from
+unfolding number_at too_large number_of value_from
+no_number text from h =
+    let none : take_while is_numeral (drop from text) ≡ [] = rw (drop_all from text (omega arith)) empty_run in
+    let end : from + 0 ≡ from = omega arith in
+    rw (none, end)

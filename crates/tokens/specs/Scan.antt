@@ -3,6 +3,7 @@ use Rattle.std.specs.Prelude.{◌≡◌, ℕ, ◌+◌, ◌-◌, ◌*◌, ◌≤�
 use Rattle.std.specs.List.{fold, prefix_len, take_while}
 use Rattle.text_rules.specs.declared.Kind.TheVariants as kind
 use Rattle.text_rules.specs.declared.Token.{Token}
+use Rattle.tokens.specs.declared.Number.{Number}
 use Rattle.text_rules.specs.Bytes.{is_numeral, is_blank}
 use Rattle.text_rules.specs.Digits.{max_digits, max_number, refused_number, number_of}
 use Rattle.text_rules.specs.Marks.{marks}
@@ -11,6 +12,10 @@ use Rattle.text_rules.specs.Tokens.{token_by}
 -- a byte that does not end the line
 abbrev pub in_line : ℕ → Bool
 in_line b = not (eqb b 10)
+
+-- the end of a comment's bytes from a place on: its line end, or the text's end
+unfoldable pub comment_end : List ℕ → ℕ → ℕ
+comment_end text from = from + length (take_while in_line (drop from text))
 
 -- nothing is said by so many bytes at the front, and a token begins after them
 pub record Silent (bytes : List ℕ) (n : ℕ) : Type 0 where
@@ -43,5 +48,9 @@ abbrev pub run_at : List ℕ → ℕ → List ℕ
 run_at text from = take_while is_numeral (drop from text)
 
 -- the number at a place
-abbrev pub number_at : List ℕ → ℕ → Token
-number_at text from = token_by (kind.Number (number_of (run_at text from))) (from + prefix_len is_numeral (drop from text))
+unfoldable pub number_at : List ℕ → ℕ → Number
+number_at text from = record { value = number_of (run_at text from); end = from + length (run_at text from) }
+
+-- the token that it makes
+abbrev pub number_token : List ℕ → ℕ → Token
+number_token text from = token_by (kind.Number (number_of (run_at text from))) (from + prefix_len is_numeral (drop from text))

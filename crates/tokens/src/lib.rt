@@ -1,15 +1,22 @@
 // What stands at a place of the text: blanks and comments are passed over, and a run of digits is read as a number.
 #![tactic(auto)]
 
-ghost use Rattle.std.specs.Prelude.{◌≡◌, ◌≤◌, length};
+ghost use Rattle.std.specs.Prelude.{◌≡◌, ◌≤◌, ◌||◌, eqb, length};
 ghost use Rattle.std.specs.List.{prefix_len};
 ghost use Rattle.text_rules.specs.Bytes.{is_blank};
 ghost use Rattle.text_rules.specs.Tokens.{token_at};
-ghost use Rattle.tokens.specs.Scan.{in_line, Silent, Skipped, Run, read_as, number_at};
+ghost use Rattle.tokens.specs.Scan.{in_line, comment_end, Silent, Skipped, Run, read_as, number_token, number_at};
 
 use text_rules::{Kind, Token};
 
-fn is_blank(b: u8) -> bool
+// What a run of digits is read as, and the place after it.
+#[derive(Clone, Copy, Debug, PartialEq, Eq)]
+pub struct Number {
+    pub value: u32,
+    pub end: usize,
+}
+
+pub fn is_blank(b: u8) -> bool
     ensures { result ≡ is_blank b }
 {
     matches!(b, b' ' | b'\t' | b'\r')
@@ -31,6 +38,17 @@ fn bytes_in_line(bytes: &[u8]) -> usize
     bytes.iter().take_while(|b| **b != b'\n').count()
 }
 
+// The place of the line end that closes a comment, or the text's end.
+#[tactic(auto, using(crate::proofs::Says::ends_line), unfolding(crate::specs::Scan::comment_end))]
+pub fn comment_end(text: &[u8], from: usize) -> usize
+    ensures { result ≡ comment_end text.now from }
+{
+    match text.get(from..) {
+        Some(rest) => from + bytes_in_line(rest),
+        None => from,
+    }
+}
+
 // How many bytes at the front say nothing: blanks, and a comment up to its line end.
 fn silent(bytes: &[u8]) -> usize
     ensures { Silent bytes.now result }
@@ -43,12 +61,19 @@ fn silent(bytes: &[u8]) -> usize
     }
 }
 
-// The place of the next token's first byte, or the text's end.
+fn says_nothing(b: u8) -> bool
+    ensures { result ≡ (eqb b 35 || is_blank b) }
+{
+    b == b'#' || is_blank(b)
+}
+
+// The place of the next token's first byte, or the text's end. Most bytes begin a token, and one look tells it of them.
 fn skipped(text: &[u8], place: usize) -> usize
     ensures { Skipped text.now place result }
 {
-    match text.get(place..) {
-        Some(rest) => place + silent(rest),
+    match text.get(place) {
+        Some(b) if !says_nothing(*b) => place,
+        Some(_) => place + silent(&text[place..]),
         None => text.len(),
     }
 }
@@ -80,10 +105,27 @@ fn read_as(count: usize, value: u64) -> u32
     }
 }
 
-// The number at a place of the text, with all its digits.
-fn number_at(text: &[u8], from: usize) -> Token
-    requires { from ≤ length text.now }
+// The number at a place of the text, with all its digits: where there is none it is 0.
+pub fn number_at(text: &[u8], from: usize) -> Number
     ensures { result ≡ number_at text.now from }
+{
+    let Some(rest) = text.get(from..) else {
+        return Number {
+            value: 0,
+            end: from,
+        };
+    };
+    let (count, value) = run(rest);
+    Number {
+        value: read_as(count, value),
+        end: from + count,
+    }
+}
+
+// The token that the number at a place of the text makes, with all its digits.
+fn number_token(text: &[u8], from: usize) -> Token
+    requires { from ≤ length text.now }
+    ensures { result ≡ number_token text.now from }
 {
     let (count, value) = run(&text[from..]);
     Token {
@@ -105,7 +147,7 @@ pub fn token_at(text: &[u8], place: usize) -> Token
         };
     };
     if b.is_ascii_digit() {
-        return number_at(text, at);
+        return number_token(text, at);
     }
     let kind = if *b == b'\n' {
         Kind::LineEnd

@@ -12,7 +12,7 @@ returns-in_default c =
 pub returns-then-is_ascii_digit : goal.returns-then-is_ascii_digit
 returns-then-is_ascii_digit c =
     let byte = c.in-Some.ensures.lookup.3 in
-    c.number_at.ensures
+    c.number_token.ensures
     ∙ token_number c.args.text.now _ c.skipped-at.result c.skipped-at.ensures byte.0 (rw (byte.1 0) at (sym c.if-is_ascii_digit.ensures.value))
 
 pub returns : goal.returns
