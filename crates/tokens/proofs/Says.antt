@@ -2,24 +2,19 @@
 use mathlib.Core.Path.{◌≡◌, refl, sym, ap, ◌∙◌}
 use mathlib.Core.Bool.{Bool, true, false, cond, not, ◌||◌, true≢false, false≢true}
 use mathlib.Core.List.{List, [], ◌∷◌}
-use Prim.Native.Nat.{ℕ, suc, ◌+◌, ◌-◌, ◌≤◌, ◌<◌}
+use Prim.Native.Nat.{ℕ, suc, ◌+◌, ◌-◌, ◌<◌}
 use native.Mathlib.Omega.{arith}
 use lib.Dec.{eqb}
 use lib.ListN.{length, get_or, take, drop, length-drop}
 use Rattle.std.proofs.lemmas.List.{take_all}
-use lib.Seq.{drop-cons, drop-drop, get_or-drop}
 use borrow.Author.Tests.{eqb-true}
-use denote.Bor.{Bor}
-use Rattle.std.specs.Prelude.{Option, Some, None}
-use Rattle.std.specs.Option.{option_eq}
-use Rattle.std.specs.Slice.{IsItemAt}
 use Rattle.std.specs.List.{prefix_len, take_while}
-use Rattle.std.proofs.lemmas.List.Sums.{take_while-cons, prefix_len-le-length, prefix_len_stops}
+use Rattle.std.proofs.lemmas.List.Sums.{take_while-cons}
 use Rattle.std.proofs.lemmas.List.Folds.{length-prefix_len}
 use Rattle.text_rules.specs.Bytes.{is_numeral, is_blank}
 use Rattle.text_rules.specs.Marks.{line_end, number, wrong, starts_digit, longer, marks_from, marks}
 use Rattle.text_rules.proofs.Marks.{at_byte, passed_over}
-use Rattle.tokens.specs.Scan.{in_line, comment_end, Silent}
+use Rattle.tokens.specs.Scan.{in_line, comment_end}
 use Rattle.tokens.proofs.Classes.{class_numeral, class_line, class_hash, class_blank, class_other, numeral_digit}
 
 -- ---- a number
@@ -64,7 +59,7 @@ blank_says b bs true e h =
     rw (size, class_blank b e) h
 blank_says b bs false e h = rw e
 
-blanks_say : (bs : List ℕ) → marks (drop (prefix_len is_blank bs) bs) ≡ marks bs
+pub blanks_say : (bs : List ℕ) → marks (drop (prefix_len is_blank bs) bs) ≡ marks bs
 blanks_say [] = refl
 blanks_say (b ∷ bs) = blank_says b bs (is_blank b) refl (blanks_say bs)
 
@@ -76,12 +71,12 @@ line_says b bs false e h =
     let size : prefix_len in_line (b ∷ bs) ≡ suc (prefix_len in_line bs) = rw e (omega arith) in
     rw size (h ∙ sym (passed_over b bs e))
 
-comment_says : (bs : List ℕ) → marks (drop (prefix_len in_line bs) bs) ≡ marks_from true bs
+pub comment_says : (bs : List ℕ) → marks (drop (prefix_len in_line bs) bs) ≡ marks_from true bs
 unfolding marks_from
 comment_says [] = refl
 comment_says (b ∷ bs) = line_says b bs (eqb b 10) refl (comment_says bs)
 
-hash_says : (b : ℕ) (bs : List ℕ) → b ≡ 35 → marks (b ∷ bs) ≡ marks_from true (b ∷ bs)
+pub hash_says : (b : ℕ) (bs : List ℕ) → b ≡ 35 → marks (b ∷ bs) ≡ marks_from true (b ∷ bs)
 unfolding marks_from
 hash_says b bs e = rw (class_hash b e)
 
@@ -89,18 +84,8 @@ line_end_is : (b : ℕ) (t : Bool) → eqb b 10 ≡ t → not t ≡ false → b 
 line_end_is b true e h = eqb-true b 10 e
 line_end_is b false e h = absurd (true≢false h)
 
-no_more : (b : ℕ) → in_line b ≡ false → (eqb b 35 || is_blank b) ≡ false
+pub no_more : (b : ℕ) → in_line b ≡ false → (eqb b 35 || is_blank b) ≡ false
 no_more b e = rw (line_end_is b (eqb b 10) refl e)
-
--- whether a byte stands at a place, told from what stands there
-module _ (bytes : List ℕ) (n : ℕ) where
-  pub stands_there : (r : Option (Bor ℕ)) (b : Bor ℕ) → IsItemAt bytes n r → option_eq (λ x y. eqb x.now y.now) r (Some b) ≡ true → (n < length bytes) × (get_or bytes n 0 ≡ b.now)
-  stands_there None b m e = absurd (false≢true e)
-  stands_there (Some x) b m e = (m.3.0, sym (m.3.1 0) ∙ eqb-true x.now b.now e)
-
-  pub stands_not : (r : Option (Bor ℕ)) (b : Bor ℕ) → IsItemAt bytes n r → option_eq (λ x y. eqb x.now y.now) r (Some b) ≡ false → n < length bytes → eqb (get_or bytes n 0) b.now ≡ false
-  stands_not None b m e l = absurd (omega (arith, m.3, l))
-  stands_not (Some x) b m e l = rw (m.3.1 0) at e
 
 -- a slice from a place to the end
 pub rest_is : (bytes : List ℕ) (n : ℕ) → take (length bytes - n) (drop n bytes) ≡ drop n bytes
@@ -114,26 +99,3 @@ unfolding comment_end
 ends_line text rest from k e f =
     let size : length (take_while in_line (drop from text)) ≡ prefix_len in_line (drop from text) = length-prefix_len in_line (drop from text) in
     rw (size, f, e)
-
-pub silent_blanks : (bytes : List ℕ) (n : ℕ) → n ≡ prefix_len is_blank bytes → (n < length bytes → eqb (get_or bytes n 0) 35 ≡ false) → Silent bytes n
-silent_blanks bytes n e h =
-    let most : prefix_len is_blank bytes ≤ length bytes = prefix_len-le-length is_blank bytes in
-    record {
-      same = rw e (blanks_say bytes);
-      first = λ l. rw (h l, e) (prefix_len_stops is_blank bytes 0 (omega (arith, l, e)));
-      within = omega (arith, most, e);
-    }
-
-pub silent_comment : (bytes : List ℕ) (n k : ℕ) → n ≡ prefix_len is_blank bytes → n < length bytes → get_or bytes n 0 ≡ 35 → k ≡ prefix_len in_line (drop n bytes) → Silent bytes (n + k)
-silent_comment bytes n k e l h f =
-    let rest = drop n bytes in
-    let most : prefix_len in_line rest ≤ length rest = prefix_len-le-length in_line rest in
-    let size : length rest ≡ length bytes - n = length-drop n bytes in
-    let hash : marks rest ≡ marks_from true rest = rw (drop-cons bytes n 0 l) (hash_says (get_or bytes n 0) _ h) in
-    let blanks : marks rest ≡ marks bytes = rw e (blanks_say bytes) in
-    record {
-      same = rw (← drop-drop k n bytes, f) (comment_says rest ∙ sym hash ∙ blanks);
-      first = λ m.
-          no_more (get_or bytes (n + k) 0) (rw (← get_or-drop n bytes k 0, f) (prefix_len_stops in_line rest 0 (omega (arith, m, f, size))));
-      within = omega (arith, most, size, f);
-    }

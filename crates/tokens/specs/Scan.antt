@@ -1,5 +1,5 @@
 -- What is passed over on the way to a token, and a number's value as far as it matters.
-use Rattle.std.specs.Prelude.{◌≡◌, ℕ, ◌+◌, ◌-◌, ◌*◌, ◌≤◌, ◌<◌, Bool, false, cond, not, ◌||◌, List, eqb, leb, ltb, length, get_or, drop}
+use Rattle.std.specs.Prelude.{◌≡◌, ℕ, Option, Some, None, ◌+◌, ◌-◌, ◌*◌, ◌≤◌, ◌<◌, Bool, false, cond, not, ◌||◌, List, eqb, leb, ltb, length, get_or, drop}
 use Rattle.std.specs.List.{fold, prefix_len, take_while}
 use Rattle.text_rules.specs.declared.Kind.TheVariants as kind
 use Rattle.text_rules.specs.declared.Token.{Token}
@@ -17,11 +17,21 @@ in_line b = not (eqb b 10)
 unfoldable pub comment_end : List ℕ → ℕ → ℕ
 comment_end text from = from + length (take_while in_line (drop from text))
 
--- nothing is said by so many bytes at the front, and a token begins after them
-pub record Silent (bytes : List ℕ) (n : ℕ) : Type 0 where
-  pub same : marks (drop n bytes) ≡ marks bytes
-  pub first : n < length bytes → (eqb (get_or bytes n 0) 35 || is_blank (get_or bytes n 0)) ≡ false
-  pub within : n ≤ length bytes
+-- the byte at a place, with the place
+abbrev pub byte_at : List ℕ → ℕ → Option (ℕ × ℕ)
+byte_at text at = cond (ltb at (length text)) (Some (at, get_or text at 0)) None
+
+-- the place past the blanks
+abbrev pub past_blanks : List ℕ → ℕ → ℕ
+past_blanks text from = from + prefix_len is_blank (drop from text)
+
+-- the end of the comment that begins at a place, or the place itself where none begins there
+abbrev pub past_comment : List ℕ → ℕ → ℕ
+past_comment text at = cond (eqb (get_or text at 0) 35) (comment_end text at) at
+
+-- the place past both, where the next token begins
+abbrev pub skipped : List ℕ → ℕ → ℕ
+skipped text from = past_comment text (past_blanks text from)
 
 -- nothing is said between the place and r, and a token begins at r
 pub record Skipped (text : List ℕ) (place r : ℕ) : Type 0 where

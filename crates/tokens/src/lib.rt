@@ -1,11 +1,11 @@
 // What stands at a place of the text: blanks and comments are passed over, and a run of digits is read as a number.
 #![tactic(auto)]
 
-ghost use Rattle.std.specs.Prelude.{◌≡◌, ◌≤◌, ◌||◌, eqb, length};
+ghost use Rattle.std.specs.Prelude.{◌≡◌, ◌≤◌, length};
 ghost use Rattle.std.specs.List.{prefix_len};
 ghost use Rattle.text_rules.specs.Bytes.{is_blank};
 ghost use Rattle.text_rules.specs.Tokens.{token_at};
-ghost use Rattle.tokens.specs.Scan.{in_line, comment_end, Silent, Skipped, Run, read_as, number_token, number_at};
+ghost use Rattle.tokens.specs.Scan.{in_line, comment_end, byte_at, past_blanks, skipped, Run, read_as, number_token, number_at};
 
 use text_rules::{Kind, Token};
 
@@ -49,32 +49,35 @@ pub fn comment_end(text: &[u8], from: usize) -> usize
     }
 }
 
-// How many bytes at the front say nothing: blanks, and a comment up to its line end.
-fn silent(bytes: &[u8]) -> usize
-    ensures { Silent bytes.now result }
+// The byte at a place, with the place.
+fn byte_at(text: &[u8], at: usize) -> Option<(usize, u8)>
+    ensures { result ≡ byte_at text.now at }
 {
-    let blanks = blanks_in_front(bytes);
-    if bytes.get(blanks) == Some(&b'#') {
-        blanks + bytes_in_line(&bytes[blanks..])
+    text.get(at).map(|b| (at, *b))
+}
+
+// The first byte from a place on that is no blank. Most bytes are none, and one look tells it of them.
+fn past_blanks(text: &[u8], place: usize) -> Option<(usize, u8)>
+    ensures { result ≡ byte_at text.now (past_blanks text.now place) }
+{
+    let (at, b) = byte_at(text, place)?;
+    if is_blank(b) {
+        let after = place + 1;
+        byte_at(text, after + blanks_in_front(&text[after..]))
     } else {
-        blanks
+        Some((at, b))
     }
 }
 
-fn says_nothing(b: u8) -> bool
-    ensures { result ≡ (eqb b 35 || is_blank b) }
+// The byte that begins the next token. Blanks are passed, and a comment where one begins.
+fn skipped(text: &[u8], place: usize) -> Option<(usize, u8)>
+    ensures { result ≡ byte_at text.now (skipped text.now place) }
 {
-    b == b'#' || is_blank(b)
-}
-
-// The place of the next token's first byte, or the text's end. Most bytes begin a token, and one look tells it of them.
-fn skipped(text: &[u8], place: usize) -> usize
-    ensures { Skipped text.now place result }
-{
-    match text.get(place) {
-        Some(b) if !says_nothing(*b) => place,
-        Some(_) => place + silent(&text[place..]),
-        None => text.len(),
+    let (at, b) = past_blanks(text, place)?;
+    if b == b'#' {
+        byte_at(text, comment_end(text, at))
+    } else {
+        Some((at, b))
     }
 }
 
@@ -139,20 +142,24 @@ fn number_token(text: &[u8], from: usize) -> Token
 pub fn token_at(text: &[u8], place: usize) -> Token
     ensures { result ≡ token_at text.now place }
 {
-    let at = skipped(text, place);
-    let Some(b) = text.get(at) else {
+    let Some((at, b)) = skipped(text, place) else {
         return Token {
             kind: Kind::End,
             end: text.len(),
         };
     };
+    let end = at + 1;
+    if b == b'\n' {
+        return Token {
+            kind: Kind::LineEnd,
+            end,
+        };
+    }
     if b.is_ascii_digit() {
         return number_token(text, at);
     }
-    let kind = if *b == b'\n' {
-        Kind::LineEnd
-    } else {
-        Kind::Wrong
-    };
-    Token { kind, end: at + 1 }
+    Token {
+        kind: Kind::Wrong,
+        end,
+    }
 }
