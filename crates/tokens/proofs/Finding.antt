@@ -4,14 +4,15 @@ use mathlib.Core.Bool.{Bool, true, false, cond, ◌||◌, true≢false, false≢
 use mathlib.Core.List.{List, [], ◌∷◌}
 use Prim.Native.Nat.{ℕ, ◌+◌, ◌-◌, ◌≤◌, ◌<◌}
 use native.Mathlib.Omega.{arith}
+use native.Mathlib.Numerals.{add-one}
 use lib.Dec.{eqb, ltb}
 use lib.ListN.{length, get_or, drop, length-drop}
-use lib.Seq.{drop-drop, get_or-drop}
+use lib.Seq.{drop-cons, drop-drop, get_or-drop}
 use borrow.Author.Tests.{eqb-true, ltb-true, ltb-false}
 use Rattle.std.specs.Prelude.{Option, Some, None}
 use Rattle.std.specs.Option.{is_some}
 use Rattle.std.specs.List.{prefix_len, take_while}
-use Rattle.std.proofs.lemmas.List.Sums.{prefix_len_stops}
+use Rattle.std.proofs.lemmas.List.Sums.{prefix_len_stops, prefix_len-le-length}
 use Rattle.std.proofs.lemmas.List.Folds.{length-prefix_len}
 use Rattle.text_rules.specs.Bytes.{is_blank}
 use Rattle.text_rules.specs.Marks.{marks}
@@ -43,6 +44,15 @@ module _ (text : List ℕ) (i : ℕ) where
       let front : i + 0 ≡ i = omega arith in
       let byte : get_or rest 0 0 ≡ 35 = get_or-drop i text 0 0 ∙ rw front e in
       rw (← drop-drop _ i text, over) (hash_same rest byte)
+
+  -- a comment has a byte, and ends within the text
+  pub comment_spans : i < length text → get_or text i 0 ≡ 35 → (i < comment_end text i) × (comment_end text i ≤ length text)
+  unfolding comment_end
+  comment_spans h e =
+      let most : prefix_len in_line rest ≤ length rest = prefix_len-le-length in_line rest in
+      let parts : rest ≡ get_or text i 0 ∷ drop (i + 1) text = rw (add-one i) (drop-cons text i 0 h) in
+      let some : prefix_len in_line rest ≡ 1 + prefix_len in_line (drop (i + 1) text) = rw (parts, e) in
+      (omega (arith, over, some), omega (arith, h, over, most, left))
 
   -- the byte past blanks is no blank, and the byte past a comment begins neither
   no_blank : past_blanks text i < length text → is_blank (get_or text (past_blanks text i) 0) ≡ false
