@@ -1,6 +1,6 @@
 -- The byte that is found past the blanks, and past a comment, begins a token.
-use mathlib.Core.Path.{◌≡◌, refl, sym, ap, subst, ◌∙◌}
-use mathlib.Core.Bool.{Bool, true, false, cond, ◌||◌, true≢false, false≢true}
+use mathlib.Core.Path.{◌≡◌, refl, sym, subst, ◌∙◌}
+use mathlib.Core.Bool.{Bool, true, false, cond, ◌||◌}
 use mathlib.Core.List.{List, [], ◌∷◌}
 use Prim.Native.Nat.{ℕ, ◌+◌, ◌-◌, ◌≤◌, ◌<◌}
 use native.Mathlib.Omega.{arith}
@@ -10,7 +10,6 @@ use lib.ListN.{length, get_or, drop, length-drop}
 use lib.Seq.{drop-cons, drop-drop, get_or-drop}
 use borrow.Author.Tests.{eqb-true, ltb-true, ltb-false}
 use Rattle.std.specs.Prelude.{Option, Some, None}
-use Rattle.std.specs.Option.{is_some}
 use Rattle.std.specs.List.{prefix_len, take_while}
 use Rattle.std.proofs.lemmas.List.Sums.{prefix_len_stops, prefix_len-le-length}
 use Rattle.std.proofs.lemmas.List.Folds.{length-prefix_len}
@@ -89,26 +88,23 @@ pub record Begins (text : List ℕ) (place : ℕ) (found : ℕ × ℕ) : Type 0 
   pub there : found.0 < length text
   pub is : get_or text found.0 0 ≡ found.1
 
-abbrev inside : Option (ℕ × ℕ) → ℕ × ℕ
-inside None = (0, 0)
-inside (Some x) = x
+-- what is known of a place by the byte that was found there
+abbrev Told : List ℕ → ℕ → Option (ℕ × ℕ) → Type 0
+Told text r None = length text ≤ r
+Told text r (Some p) = (r < length text) × ((r, get_or text r 0) ≡ p)
+
+told : (text : List ℕ) (r : ℕ) (o : Option (ℕ × ℕ)) → byte_at text r ≡ o → Told text r o
+told text r o e = subst (Told text r) e (by (ltb r (length text)) refl)
+  where
+    by : (t : Bool) → ltb r (length text) ≡ t → Told text r (cond {A = Option (ℕ × ℕ)} t (Some (r, get_or text r 0)) None)
+    by true t = (ltb-true r (length text) t, refl)
+    by false t = ltb-false r (length text) t
 
 module _ (text : List ℕ) (place : ℕ) where
-  abbrev r : ℕ
-  r = skipped text place
+  pub found : (p : ℕ × ℕ) → byte_at text (skipped text place) ≡ Some p → Begins text place p
+  found p e =
+      let t = told text (skipped text place) (Some p) e in
+      subst (Begins text place) t.1 (record { skips = skips text place t.0; there = t.0; is = refl })
 
-  found_by : (p : ℕ × ℕ) (t : Bool) → ltb r (length text) ≡ t → cond {A = Option (ℕ × ℕ)} t (Some (r, get_or text r 0)) None ≡ Some p → Begins text place p
-  found_by p true t e =
-      let h = ltb-true r (length text) t in
-      subst (Begins text place) (ap inside e) (record { skips = skips text place h; there = h; is = refl })
-  found_by p false t e = absurd (false≢true (ap is_some e))
-
-  pub found : (p : ℕ × ℕ) → byte_at text r ≡ Some p → Begins text place p
-  found p = found_by p (ltb r (length text)) refl
-
-  none_by : (t : Bool) → ltb r (length text) ≡ t → cond {A = Option (ℕ × ℕ)} t (Some (r, get_or text r 0)) None ≡ None → Skipped text place (length text)
-  none_by true t e = absurd (true≢false (ap is_some e))
-  none_by false t e = skips_all text place (ltb-false r (length text) t)
-
-  pub found_none : byte_at text r ≡ None → Skipped text place (length text)
-  found_none = none_by (ltb r (length text)) refl
+  pub found_none : byte_at text (skipped text place) ≡ None → Skipped text place (length text)
+  found_none e = skips_all text place (told text (skipped text place) None e)
